@@ -1,0 +1,56 @@
+-- What the calls of a disk do to its files and to its counts of faults.
+use Rattle.std.specs.Prelude.{◌≡◌, ◌≢◌, ℕ, ◌+◌, ◌<◌, ◌≤◌, ◌^◌, ◌⊎◌, List, [], ◌++◌, Bool, IsTrue, take, drop, length, slice_index_or, unwrap_or, Option, Some, None, Result, IsErr}
+use Rattle.std.specs.FinMap as map
+use Rattle.dl_types.specs.declared.name.Base.{Base}
+use Rattle.dl_types.specs.declared.file.FileName.{FileName}
+use Rattle.dl_types.specs.FileName.{Content}
+
+-- a count went up, or stands at the greatest number, from where it cannot
+abbrev pub Rises : ℕ → ℕ → Type 0
+Rises old new = (old < new) ⊎ (2 ^ 64 ≤ new + 1)
+
+-- a count that is seen not to have gone up
+pub record IsQuiet (old new : ℕ) : Type 0 where
+  pub same : new ≡ old
+  pub seen : new + 1 < 2 ^ 64
+
+-- one call on a file of this base: a fault is counted under this base, and nothing under another
+pub record Counts {T E : Type 0} (base : Base) (old new : Base → ℕ) (result : Result T E) : Type 0 where
+  pub later : old base ≤ new base
+  pub fault : IsErr result → Rises (old base) (new base)
+  pub others : (b : Base) → b ≢ base → new b ≡ old b
+
+-- what each call on files of one base leaves, whatever it answers
+pub record IsCallOn {D T E : Type 0} (honest : D → Bool) (faults : D → Base → ℕ) (known : D → Base → Bool) (base : Base) (old new : D) (result : Result T E) : Type 0 where
+  pub knows : (b : Base) → IsTrue (known old b) → IsTrue (known new b)
+  pub counts : Counts base (faults old) (faults new) result
+  pub stayed : IsTrue (honest new) → IsTrue (honest old)
+
+-- what a call leaves that counts no fault
+pub record IsUncounted {D : Type 0} (honest : D → Bool) (faults : D → Base → ℕ) (known : D → Base → Bool) (old new : D) : Type 0 where
+  pub knows : (b : Base) → IsTrue (known old b) → IsTrue (known new b)
+  pub counts : (b : Base) → faults new b ≡ faults old b
+  pub stayed : IsTrue (honest new) → IsTrue (honest old)
+
+-- the bytes of a file, and none where it is not there
+abbrev pub text_at : Content → FileName → List ℕ
+text_at content file = unwrap_or (map.get content file) []
+
+-- the bytes with others in the place of a range, or behind the end
+abbrev pub written : List ℕ → ℕ → List ℕ → List ℕ
+written old at bytes = take at old ++ bytes ++ drop (at + length bytes) old
+
+-- after a write that failed: the same outside its range, up to the old end
+pub record Torn (old : List ℕ) (at n : ℕ) (new : List ℕ) : Type 0 where
+  pub no_shorter : length old ≤ length new
+  pub before : take at new ≡ take at old
+  pub after : take (length old) (drop (at + n) new) ≡ drop (at + n) old
+
+-- no file is still none, and a file is torn at most
+abbrev pub TornAt : Option (List ℕ) → ℕ → ℕ → Option (List ℕ) → Type 0
+TornAt None at n new = new ≡ None
+TornAt (Some old) at n new = (text : List ℕ) × (new ≡ Some text) × Torn old at n text
+
+-- no name stands at two places
+abbrev pub IsOnce : List FileName → Type 0
+IsOnce names = (i j : ℕ) (d : FileName) → i < length names → j < length names → slice_index_or names i d ≡ slice_index_or names j d → i ≡ j
