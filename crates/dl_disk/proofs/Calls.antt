@@ -39,6 +39,25 @@ counts_then {base = base} {r = r} {s = s} {old = old} {mid = mid} {new = new} ei
     by_case (inl e) = rises_and_stays (old base) (mid base) (new base) (first.fault e) second.later
     by_case (inr e) = stays_and_rises (old base) (mid base) (new base) first.later (second.fault e)
 
+-- the same from counts, and to counts, that are the same at each base
+counts_from : {T E : Type 0} {base : Base} {r : Result T E} (old mid new : Base → ℕ) → ((b : Base) → mid b ≡ old b) → Counts base mid new r → Counts base old new r
+counts_from {base = base} old mid new same call =
+    let one : old base ≤ mid base = subst (λ n. old base ≤ n) (sym (same base)) (omega arith) in
+    record {
+      later = (let h = call.later in omega arith);
+      fault = λ e. stays_and_rises (old base) (mid base) (new base) one (call.fault e);
+      others = λ b ne. call.others b ne ∙ same b;
+    }
+
+counts_to : {T E : Type 0} {base : Base} {r : Result T E} (old mid new : Base → ℕ) → Counts base old mid r → ((b : Base) → new b ≡ mid b) → Counts base old new r
+counts_to {base = base} old mid new call same =
+    let one : mid base ≤ new base = subst (λ n. mid base ≤ n) (sym (same base)) (omega arith) in
+    record {
+      later = (let h = call.later in omega arith);
+      fault = λ e. rises_and_stays (old base) (mid base) (new base) (call.fault e) one;
+      others = λ b ne. same b ∙ call.others b ne;
+    }
+
 -- ---- calls
 module _ {D : Type 0} {honest : D → Bool} {faults : D → Base → ℕ} {known : D → Base → Bool} where
   -- no call takes a fault back
@@ -56,5 +75,31 @@ module _ {D : Type 0} {honest : D → Bool} {faults : D → Base → ℕ} {known
   call_then either first second = record {
     knows = λ b h. second.knows b (first.knows b h);
     counts = counts_then either first.counts second.counts;
+    stayed = λ h. first.stayed (second.stayed h);
+  }
+
+  -- no call at all, where the answer is no fault
+  pub no_call : {T E : Type 0} {base : Base} {r : Result T E} {disk : D} → (IsErr r → ⊥) → IsCallOn honest faults known base disk disk r
+  no_call {base = base} {disk = disk} fine = record {
+    knows = λ b h. h;
+    counts = record { later = omega arith; fault = λ e. absurd (fine e); others = λ b ne. refl };
+    stayed = λ h. h;
+  }
+
+  -- a call, after one that counts no fault
+  pub uncounted_then : {T E : Type 0} {base : Base} {r : Result T E} {old mid new : D}
+      → IsUncounted honest faults known old mid → IsCallOn honest faults known base mid new r → IsCallOn honest faults known base old new r
+  uncounted_then {r = r} {old = old} {mid = mid} {new = new} first second = record {
+    knows = λ b h. second.knows b (first.knows b h);
+    counts = counts_from (faults old) (faults mid) (faults new) first.counts second.counts;
+    stayed = λ h. first.stayed (second.stayed h);
+  }
+
+  -- a call, before one that counts no fault
+  pub then_uncounted : {T E : Type 0} {base : Base} {r : Result T E} {old mid new : D}
+      → IsCallOn honest faults known base old mid r → IsUncounted honest faults known mid new → IsCallOn honest faults known base old new r
+  then_uncounted {r = r} {old = old} {mid = mid} {new = new} first second = record {
+    knows = λ b h. second.knows b (first.knows b h);
+    counts = counts_to (faults old) (faults mid) (faults new) first.counts second.counts;
     stayed = λ h. first.stayed (second.stayed h);
   }

@@ -4,27 +4,29 @@ use Rattle.dl_types.specs.declared.name.Base.{Base}
 use Rattle.dl_types.specs.Name.{same_base}
 use Rattle.dl_types.proofs.Keys.{base_decides, apart}
 
+abbrev number : Option ℕ → ℕ
+number count = unwrap_or count 0
+
 module _ (old new : Base → Option ℕ) (base : Base) (w : Option ℕ) (is : (b : Base) → new b ≡ cond (same_base base b) w (old b)) where
+  at_test : (b : Base) (t : Bool) → same_base base b ≡ t → new b ≡ cond t w (old b)
+  at_test b t e = is b ∙ ap (λ u. cond u w (old b)) e
+
   -- another base keeps its count
-  pub count_kept : (b : Base) → b ≢ base → unwrap_or (new b) 0 ≡ unwrap_or (old b) 0
-  count_kept b ne = ap (λ r. unwrap_or r 0) (is b ∙ ap (λ t. cond t w (old b)) (apart same_base base_decides base b ne))
+  pub count_kept : (b : Base) → b ≢ base → number (new b) ≡ number (old b)
+  count_kept b ne = ap number (at_test b false (apart same_base base_decides base b ne))
 
   -- a base that had a count has one
   pub still_known : IsSome w → (b : Base) → IsSome (old b) → IsSome (new b)
-  still_known some b had = subst IsSome (sym (is b)) (by_test (same_base base b))
+  still_known some b had = by_test (same_base base b) refl
     where
-      by_test : (t : Bool) → IsSome (cond t w (old b))
-      by_test true = some
-      by_test false = had
+      by_test : (t : Bool) → same_base base b ≡ t → IsSome (new b)
+      by_test true e = subst IsSome (sym (at_test b true e)) some
+      by_test false e = subst IsSome (sym (at_test b false e)) had
 
--- a base that gets its place has no fault, as before
-pub count_begins : (old new : Base → Option ℕ) (base : Base) → ((b : Base) → new b ≡ cond (same_base base b) (Some 0) (old b)) → old base ≡ None
-    → (b : Base) → unwrap_or (new b) 0 ≡ unwrap_or (old b) 0
-count_begins old new base is none b = by_test (same_base base b) refl
-  where
-    count : Option ℕ → ℕ
-    count r = unwrap_or r 0
-
-    by_test : (t : Bool) → same_base base b ≡ t → unwrap_or (new b) 0 ≡ unwrap_or (old b) 0
-    by_test true e = ap (λ r. unwrap_or r 0) (is b ∙ ap (λ t. cond t (Some 0) (old b)) e) ∙ sym (ap (λ r. unwrap_or r 0) (ap old (sym ((base_decides base b).0 e)) ∙ none))
-    by_test false e = ap (λ r. unwrap_or r 0) (is b ∙ ap (λ t. cond t (Some 0) (old b)) e)
+  -- a base whose count begins at 0 has no more faults than it had without one
+  pub count_begins : w ≡ Some 0 → old base ≡ None → (b : Base) → number (new b) ≡ number (old b)
+  count_begins zero none b = by_test (same_base base b) refl
+    where
+      by_test : (t : Bool) → same_base base b ≡ t → number (new b) ≡ number (old b)
+      by_test true e = ap number (at_test b true e ∙ zero) ∙ sym (ap number (ap old (sym ((base_decides base b).0 e)) ∙ none))
+      by_test false e = ap number (at_test b false e)
