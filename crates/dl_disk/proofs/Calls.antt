@@ -1,5 +1,5 @@
 -- One call of a disk after another, over any functions that a disk is seen by.
-use Rattle.std.proofs.Common.{◌≡◌, ◌≢◌, ℕ, ◌+◌, ◌<◌, ◌≤◌, ◌^◌, ◌⊎◌, inl, inr, Bool, true, false, true≢false, IsTrue, Result, IsErr, refl, sym, ◌∙◌, ap, subst, arith}
+use Rattle.std.proofs.Common.{◌≡◌, ℕ, ◌≤◌, ◌⊎◌, inl, inr, Bool, true, false, true≢false, Result, IsErr, refl, sym, ◌∙◌, subst, arith}
 use Rattle.dl_types.specs.declared.name.Base.{Base}
 use Rattle.dl_types.specs.Name.{same_base}
 use Rattle.dl_types.proofs.Keys.{base_decides}

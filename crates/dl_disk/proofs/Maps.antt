@@ -2,7 +2,7 @@
 use Rattle.std.proofs.Common.{◌≡◌, ◌≢◌, ◌↔◌, ℕ, ◌<◌, List, [], ◌∷◌, map, length, Bool, true, false, cond, Option, Some, None, IsSome, Vec, Contains, refl, sym, ◌∙◌, ap, subst, option_map, get_or, arith, true≢false}
 use Rattle.std.specs.Map.{lookup, keys_of}
 use Rattle.std.specs.List.{IsDistinct}
-use Rattle.std.specs.FinMap.{find, insert, remove, from_entries, get-insert, get-remove, get-from_entries, same_map}
+use Rattle.std.specs.FinMap.{find, insert, remove, get-insert, get-remove, get-from_entries, same_map}
 use Rattle.std.specs.FinMap as finite
 use Rattle.std.specs.Ordering.{eq_by_cmp}
 use Rattle.std.proofs.lemmas.Map.Keys.{apart_from_distinct}

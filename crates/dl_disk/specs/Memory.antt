@@ -1,5 +1,5 @@
 -- What a disk in memory is seen as: its files as a finite map, and its counts of faults as a list.
-use Rattle.std.specs.Prelude.{◌≡◌, ℕ, List, map, Bool, Option, Vec, unwrap_or, is_some, refl}
+use Rattle.std.specs.Prelude.{ℕ, List, map, Bool, Vec, unwrap_or, is_some, refl}
 use Rattle.std.specs.FinMap.{from_entries}
 use Rattle.std.specs.Map.{lookup}
 use Rattle.std.specs.Coded.{Coded, code_by, coded×, coded_ℕ, coded_list}
