@@ -1,5 +1,8 @@
 // The forms of a line.
-use crate::items::{Written, items_of};
+ghost use Rattle.std.specs.Prelude.{◌≡◌};
+ghost use Rattle.dl_app.specs.Lines.{is_passed_over};
+
+use crate::items::{is_item, items_of};
 use crate::places::Places;
 use crate::words::{Words, client, number, size};
 use dl_types::{ClientId, Event, Fail, FileName, Kind, Name, OpenArgs, Place, Size};
@@ -38,7 +41,9 @@ pub enum Start {
 }
 
 /// Whether a line is empty or a comment, and asks for nothing.
-pub fn is_passed_over(line: &[u8]) -> bool {
+pub fn is_passed_over(line: &[u8]) -> bool
+    ensures { result ≡ is_passed_over line.now }
+{
     matches!(line.first(), None | Some(b'#'))
 }
 
@@ -87,9 +92,7 @@ fn size_option(option: &[u8]) -> Option<Size> {
 
 fn log_items(words: Words<'_>) -> Option<Call<'_>> {
     let mut items = words;
-    items
-        .all(|word| Written::of(word).is_item())
-        .then_some(Call::Log(words))
+    items.all(|word| is_item(word)).then_some(Call::Log(words))
 }
 
 fn chunk_of(mut words: Words<'_>) -> Option<Call<'_>> {

@@ -1,7 +1,7 @@
 // Words of a line, and numbers.
-ghost use Rattle.std.specs.Prelude.{◌+◌, length};
-ghost use Rattle.std.specs.Option.{option_map_or};
-ghost use Rattle.std.specs.Iterator.{at_most};
+ghost use Rattle.std.specs.Prelude.{◌≡◌, ◌==◌, ◌<◌, ◌∷◌, IfSome, is_some, length, position};
+ghost use Rattle.std.specs.Iterator.{YieldsFirstBy, item_count};
+ghost use Rattle.dl_app.specs.Words.{words_of, words_in, words_left, number_in, client_of, WritesSize};
 
 use dl_types::{ClientId, Size};
 
@@ -13,12 +13,16 @@ pub struct Words<'a> {
 
 impl<'a> Words<'a> {
     /// The words of this text.
-    pub fn of(text: &'a [u8]) -> Words<'a> {
+    pub fn of(text: &'a [u8]) -> Words<'a>
+        ensures { words_left result ≡ words_of text.now }
+    {
         Words { rest: Some(text) }
     }
 
     /// Whether every word was taken.
-    pub fn is_empty(&self) -> bool {
+    pub fn is_empty(&self) -> bool
+        ensures { result ≡ (length (words_left self.now) == 0) }
+    {
         self.rest.is_none()
     }
 }
@@ -26,25 +30,40 @@ impl<'a> Words<'a> {
 impl<'a> Iterator for Words<'a> {
     type Item = &'a [u8];
 
-    ghost remaining = { λ w. at_most (option_map_or (λ t. length t.now + 1) w.rest 0) };
+    ghost next_gives = { YieldsFirstBy (λ word. word.now) words_left };
+
+    ghost remaining = { item_count words_left };
 
     fn next(&mut self) -> Option<&'a [u8]> {
-        let text = self.rest?;
-        match text.iter().position(|byte| *byte == b' ') {
-            Some(end) => {
-                self.rest = Some(&text[end + 1..]);
-                Some(&text[..end])
-            }
-            None => {
-                self.rest = None;
-                Some(text)
-            }
-        }
+        let (word, rest) = split_word(self.rest?);
+        self.rest = rest;
+        Some(word)
+    }
+}
+
+// Where the first space is.
+fn first_space(text: &[u8]) -> Option<usize>
+    ensures value { result ≡ position (λ b. b == 32) text.now }
+    ensures within { IfSome result (λ end. end < length text.now) }
+{
+    text.iter().position(|byte| *byte == b' ')
+}
+
+// The first word, and the text behind its space where it has one.
+#[tactic(auto, using(crate::proofs::Spaces::no_space))]
+fn split_word(text: &[u8]) -> (&[u8], Option<&[u8]>)
+    ensures { words_of text.now ≡ result.0.now ∷ words_in result.1 }
+{
+    match first_space(text) {
+        Some(end) => (&text[..end], Some(&text[end + 1..])),
+        None => (text, None),
     }
 }
 
 /// Reads a number of one digit or more.
-pub fn number(word: &[u8]) -> Option<u64> {
+pub fn number(word: &[u8]) -> Option<u64>
+    ensures { result ≡ number_in word.now }
+{
     if word.is_empty() {
         return None;
     }
@@ -60,7 +79,9 @@ pub fn number(word: &[u8]) -> Option<u64> {
 }
 
 /// Reads the number of a client.
-pub fn client(word: &[u8]) -> Option<ClientId> {
+pub fn client(word: &[u8]) -> Option<ClientId>
+    ensures { result ≡ client_of (number_in word.now) }
+{
     let number = number(word)?;
     if number > u64::from(u32::MAX) {
         return None;
@@ -69,7 +90,9 @@ pub fn client(word: &[u8]) -> Option<ClientId> {
 }
 
 /// Reads the size of a log.
-pub fn size(word: &[u8]) -> Option<Size> {
+pub fn size(word: &[u8]) -> Option<Size>
+    ensures { WritesSize word.now result }
+{
     if word == b"inf".as_slice() {
         return Some(Size::Infinity);
     }
