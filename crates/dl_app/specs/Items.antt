@@ -1,7 +1,11 @@
 -- Items as words of a line.
 use Rattle.std.specs.Prelude.{◌≡◌, ℕ, ◌-◌, List, Bool, true, false, ◌||◌, ◌&&◌, ◌==◌, nat_lt, nat_le, Option, Some, None, is_some, length, take, slice_index, replicate, if◌then◌else◌}
-use Rattle.std.specs.List.{list_all}
+use Rattle.std.specs.List.{list_all, list_any}
 use Rattle.std.specs.Char.{is_ascii_graphic}
+use Rattle.dl_types.specs.declared.limits.TheConstants.{ITEM_LIMIT}
+use Rattle.dl_types.specs.declared.refusal.Argument.TheVariants as argument
+use Rattle.dl_types.specs.declared.refusal.Refusal.{Refusal}
+use Rattle.dl_types.specs.declared.refusal.Refusal.TheVariants as refusal
 use Rattle.dl_types.specs.Name.{is_name_byte}
 use Rattle.dl_app.specs.Words.{number_in}
 use Rattle.dl_app.specs.declared.items.Written.{Written}
@@ -32,6 +36,16 @@ bytes_from (Some count) word = replicate count (copied_in word)
 -- the bytes of the item
 abbrev pub item_bytes : List ℕ → List ℕ
 item_bytes word = bytes_from (copies_in word) word
+
+-- an item that is longer than any may be
+abbrev pub is_too_long : List ℕ → Bool
+is_too_long word = nat_lt ITEM_LIMIT (length (item_bytes word))
+
+-- why the items of these words are refused
+abbrev pub refusal_of : List (List ℕ) → Option Refusal
+refusal_of words =
+    if list_any is_too_long words then Some (refusal.BadArg argument.Item)
+    else (if length words == 0 then Some (refusal.BadArg argument.Items) else None)
 
 -- what a word is read as
 abbrev pub IsReadAs : List ℕ → Written → Type 0

@@ -9,7 +9,7 @@ use dl_types::{ClientId, Event, Fail, FileName, Kind, Name, OpenArgs, Place, Siz
 use std::alloc::Allocator;
 
 /// What a line asks for.
-#[derive(Clone, Copy, Debug)]
+#[derive(Clone, Copy)]
 pub enum Command<'a> {
     /// A client calls on a log.
     Call {
@@ -22,7 +22,7 @@ pub enum Command<'a> {
 }
 
 /// A call on a log.
-#[derive(Clone, Copy, Debug)]
+#[derive(Clone, Copy)]
 pub enum Call<'a> {
     Open(OpenArgs),
     /// The words behind the name, each of which writes an item.
@@ -32,7 +32,7 @@ pub enum Call<'a> {
 }
 
 /// Where a chunk is to begin.
-#[derive(Clone, Copy, Debug, PartialEq, Eq)]
+#[derive(Clone, Copy)]
 pub enum Start {
     /// At the first item.
     First,

@@ -1,10 +1,10 @@
 // Items as a script writes them.
-ghost use Rattle.std.specs.Prelude.{◌≡◌, ◌<◌, ◌≤◌, length, map, true, Err, IfOk, IfErr};
-ghost use Rattle.std.specs.List.{list_all};
+ghost use Rattle.std.specs.Prelude.{◌≡◌, ◌<◌, ◌≤◌, length, map, Err, IfOk, IfErr, IfSome, IfNone};
+ghost use Rattle.std.specs.List.{list_all, list_any};
 ghost use Rattle.dl_types.specs.declared.refusal.Argument.TheVariants as argument;
 ghost use Rattle.dl_types.specs.declared.refusal.Refusal.TheVariants as refusal;
 ghost use Rattle.dl_app.specs.Words.{words_left};
-ghost use Rattle.dl_app.specs.Items.{is_item, is_item_byte, item_bytes, IsReadAs};
+ghost use Rattle.dl_app.specs.Items.{is_item, is_item_byte, item_bytes, is_too_long, refusal_of, IsReadAs};
 
 use crate::words::{Words, number};
 use dl_types::{Argument, Fail, ITEM_LIMIT, Item, Items, Refusal};
@@ -76,7 +76,7 @@ pub fn item_of<A: Allocator>(alloc: A, word: &[u8]) -> Result<Item<A>, Fail>
     ensures refused { ITEM_LIMIT < length (item_bytes word.now) → result ≡ Err (Fail.Refused (refusal.BadArg argument.Item)) }
     ensures memory { length (item_bytes word.now) ≤ ITEM_LIMIT → IfErr result (λ fail. fail ≡ Fail.OutOfMemory) }
 {
-    if item_length(word) > ITEM_LIMIT as u64 {
+    if is_too_long(word) {
         return Err(Fail::Refused(Refusal::BadArg(Argument::Item)));
     }
     let bytes = match read_word(word) {
@@ -89,13 +89,32 @@ pub fn item_of<A: Allocator>(alloc: A, word: &[u8]) -> Result<Item<A>, Fail>
     }
 }
 
-/// Makes the items of one call, or tells the first that is refused before any memory is taken.
-pub fn items_of<A: Allocator + Copy>(alloc: A, words: Words<'_>) -> Result<Items<A>, Fail>
-    ensures { IfOk result (λ items. items ≡ map item_bytes (words_left words.entry)) }
+// Whether the item of a word is longer than any may be.
+fn is_too_long(word: &[u8]) -> bool
+    ensures { result ≡ is_too_long word.now }
 {
-    let limit = ITEM_LIMIT as u64;
-    let mut ahead = words;
-    if ahead.any(|word| item_length(word) > limit) {
+    item_length(word) > ITEM_LIMIT as u64
+}
+
+// Whether some word is too long.
+fn is_any_too_long(words: Words<'_>) -> bool
+    ensures { result ≡ list_any is_too_long (words_left words.entry) }
+{
+    for word in words {
+        if is_too_long(word) {
+            return true;
+        }
+    }
+    false
+}
+
+/// Makes the items of one call. What is refused takes no memory.
+pub fn items_of<A: Allocator + Copy>(alloc: A, words: Words<'_>) -> Result<Items<A>, Fail>
+    ensures same { IfOk result (λ items. items ≡ map item_bytes (words_left words.entry)) }
+    ensures refused { IfSome (refusal_of (words_left words.entry)) (λ refusal. result ≡ Err (Fail.Refused refusal)) }
+    ensures memory { IfNone (refusal_of (words_left words.entry)) (IfErr result (λ fail. fail ≡ Fail.OutOfMemory)) }
+{
+    if is_any_too_long(words) {
         return Err(Fail::Refused(Refusal::BadArg(Argument::Item)));
     }
     let mut items = Vec::new(alloc);

@@ -6,7 +6,7 @@ ghost use Rattle.dl_app.specs.Words.{words_of, words_in, words_left, number_in, 
 use dl_types::{ClientId, Size};
 
 /// The words of a text, which one space parts. Two spaces in a row have the empty word between them.
-#[derive(Clone, Copy, Debug)]
+#[derive(Clone, Copy)]
 pub struct Words<'a> {
     rest: Option<&'a [u8]>,
 }
