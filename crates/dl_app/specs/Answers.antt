@@ -1,5 +1,5 @@
 -- Bytes as text.
-use Rattle.std.specs.Prelude.{ℕ, ◌/◌, ◌%◌, List, [], ◌∷◌, ◌++◌, slice_index}
+use Rattle.std.specs.Prelude.{ℕ, ◌/◌, ◌%◌, List, [], ◌∷◌, slice_index}
 use Rattle.std.specs.List.{flat_map}
 use Rattle.dl_app.specs.declared.answer.TheConstants.{DIGITS}
 
