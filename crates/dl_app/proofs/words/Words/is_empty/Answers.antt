@@ -1,0 +1,5 @@
+use Rattle.dl_app.proofs.Spaces.{none_left}
+use Rattle.dl_app.proofs.words.Words.is_empty.Goals as goal
+
+pub returns : goal.returns
+returns c = none_left c.args.self.now.rest c.is_none.result c.is_none.ensures

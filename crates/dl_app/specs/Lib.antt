@@ -1,0 +1,5 @@
+pub mod Words
+pub mod Items
+pub mod Answers
+pub mod Places
+pub mod Lines

@@ -1,0 +1,23 @@
+-- Where each client goes on reading.
+use Rattle.std.specs.Prelude.{Option, Some, None, Bool, ◌&&◌}
+use Rattle.indexmap.specs.IndexMap.{get}
+use Rattle.dl_types.specs.Name.{same_client, same_name}
+use Rattle.dl_types.specs.declared.name.ClientId.{ClientId}
+use Rattle.dl_types.specs.declared.name.Name.{Name}
+use Rattle.dl_types.specs.declared.place.Continuation.{Continuation}
+use Rattle.dl_types.specs.declared.place.Place.{Place}
+use Rattle.dl_types.specs.declared.place.Place.TheVariants.{Start, At}
+use Rattle.dl_app.specs.declared.places.Places.{Places}
+use Rattle.dl_app.specs.declared.places.Reader.{Reader}
+
+abbrev pub same_reader : Reader → Reader → Bool
+same_reader a b = same_client a.client b.client && same_name a.log b.log
+
+-- the start, where no place was given
+abbrev pub start_or : Option Continuation → Place
+start_or None = Start
+start_or (Some place) = At place
+
+-- where a client goes on in a log
+abbrev pub place_of : {Z : Type 0} → Places Z → ClientId → Name → Place
+place_of places client log = start_or (get same_reader places.given (record { client = client; log = log }))

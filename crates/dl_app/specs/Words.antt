@@ -1,0 +1,39 @@
+-- The words of a line, and the numbers that they write.
+use Rattle.std.specs.Prelude.{◌≡◌, ◌≢◌, ℕ, List, [], ◌==◌, ◌&&◌, ◌^◌, Option, Some, None, codes, nat_lt, length, if◌then◌else◌}
+use Rattle.std.specs.Borrow.{Bor}
+use Rattle.std.specs.List.{slice_split, list_all}
+use Rattle.std.specs.Char.{is_ascii_digit}
+use Rattle.std.specs.Str.Parse.{digits_value}
+use Rattle.dl_types.specs.declared.name.ClientId.{ClientId}
+use Rattle.dl_types.specs.declared.size.Size.{Size}
+use Rattle.dl_types.specs.declared.size.Size.TheVariants.{Infinity, Limit}
+use Rattle.dl_app.specs.declared.words.Words.{Words}
+
+-- the words of a text, which one space parts
+abbrev pub words_of : List ℕ → List (List ℕ)
+words_of text = slice_split (λ b. b == 32) text
+
+abbrev pub words_in : Option (Bor (List ℕ)) → List (List ℕ)
+words_in None = []
+words_in (Some text) = words_of text.now
+
+-- the words that are not taken yet
+abbrev pub words_left : Words → List (List ℕ)
+words_left words = words_in words.rest
+
+-- the number that a word of one digit or more writes, where it has 64 bits
+abbrev pub number_in : List ℕ → Option ℕ
+number_in word =
+    if nat_lt 0 (length word) && list_all is_ascii_digit word && nat_lt (digits_value 10 word) (2 ^ 64)
+    then Some (digits_value 10 word) else None
+
+-- the client of a number, where it has 32 bits
+abbrev pub client_of : Option ℕ → Option ClientId
+client_of None = None
+client_of (Some n) = if nat_lt n (2 ^ 32) then Some (record { 0 = n }) else None
+
+-- a word writes this size, or none
+abbrev pub WritesSize : List ℕ → Option Size → Type 0
+WritesSize word None = (word ≢ codes "inf") × (number_in word ≡ None)
+WritesSize word (Some Infinity) = word ≡ codes "inf"
+WritesSize word (Some (Limit n)) = (word ≢ codes "inf") × (number_in word ≡ Some n)

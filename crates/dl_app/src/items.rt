@@ -1,0 +1,126 @@
+// Items as a script writes them.
+ghost use Rattle.std.specs.Prelude.{◌≡◌, ◌<◌, ◌≤◌, length, map, Err, IfOk, IfErr, IfSome, IfNone};
+ghost use Rattle.std.specs.List.{list_all, list_any};
+ghost use Rattle.dl_types.specs.declared.refusal.Argument.TheVariants as argument;
+ghost use Rattle.dl_types.specs.declared.refusal.Refusal.TheVariants as refusal;
+ghost use Rattle.dl_app.specs.Words.{words_left};
+ghost use Rattle.dl_app.specs.Items.{is_item, is_item_byte, item_bytes, is_too_long, refusal_of, IsReadAs};
+
+use crate::words::{Words, number};
+use dl_types::{Argument, Fail, ITEM_LIMIT, Item, Items, Refusal};
+use std::alloc::Allocator;
+
+// What a word of an item says.
+#[derive(Clone, Copy)]
+enum Written<'a> {
+    // The bytes of the word.
+    Plain(&'a [u8]),
+    // So many copies of one byte.
+    Copies { count: u64, of: u8 },
+}
+
+// The copies that a word such as `10*a` asks for, or else its own bytes.
+fn read_word(word: &[u8]) -> Written<'_>
+    ensures { IsReadAs word.now result }
+{
+    let Some(star) = word.len().checked_sub(2) else {
+        return Written::Plain(word);
+    };
+    let of = word[word.len() - 1];
+    if word[star] != b'*' || !of.is_ascii_graphic() {
+        return Written::Plain(word);
+    }
+    match number(&word[..star]) {
+        Some(count) => Written::Copies { count, of },
+        None => Written::Plain(word),
+    }
+}
+
+// Whether a byte may stand in a word that is an item's own bytes.
+fn is_item_byte(byte: u8) -> bool
+    ensures { result ≡ is_item_byte byte }
+{
+    byte.is_ascii_alphanumeric() || byte == b'_' || byte == b'-' || byte == b'.'
+}
+
+// Whether all bytes may.
+fn are_item_bytes(bytes: &[u8]) -> bool
+    ensures { result ≡ list_all is_item_byte bytes.now }
+{
+    bytes.iter().all(|byte| is_item_byte(*byte))
+}
+
+/// Whether a word writes an item.
+pub fn is_item(word: &[u8]) -> bool
+    ensures { result ≡ is_item word.now }
+{
+    match read_word(word) {
+        Written::Plain(bytes) => !bytes.is_empty() && are_item_bytes(bytes),
+        Written::Copies { .. } => true,
+    }
+}
+
+// How many bytes the item of a word has.
+fn item_length(word: &[u8]) -> u64
+    ensures { result ≡ length (item_bytes word.now) }
+{
+    match read_word(word) {
+        Written::Plain(bytes) => bytes.len() as u64,
+        Written::Copies { count, .. } => count,
+    }
+}
+
+/// Makes the item that a word writes. One that is too long takes no memory.
+pub fn item_of<A: Allocator>(alloc: A, word: &[u8]) -> Result<Item<A>, Fail>
+    ensures same { IfOk result (λ item. item ≡ item_bytes word.now) }
+    ensures refused { ITEM_LIMIT < length (item_bytes word.now) → result ≡ Err (Fail.Refused (refusal.BadArg argument.Item)) }
+    ensures memory { length (item_bytes word.now) ≤ ITEM_LIMIT → IfErr result (λ fail. fail ≡ Fail.OutOfMemory) }
+{
+    if is_too_long(word) {
+        return Err(Fail::Refused(Refusal::BadArg(Argument::Item)));
+    }
+    let bytes = match read_word(word) {
+        Written::Plain(bytes) => Vec::from_slice(alloc, bytes),
+        Written::Copies { count, of } => vec![in alloc; of; count as usize],
+    };
+    match bytes {
+        Ok(bytes) => Item::of(bytes).map_err(Fail::Refused),
+        Err(_) => Err(Fail::OutOfMemory),
+    }
+}
+
+// Whether the item of a word is longer than any may be.
+fn is_too_long(word: &[u8]) -> bool
+    ensures { result ≡ is_too_long word.now }
+{
+    item_length(word) > ITEM_LIMIT as u64
+}
+
+// Whether some word is too long.
+fn is_any_too_long(words: Words<'_>) -> bool
+    ensures { result ≡ list_any is_too_long (words_left words.entry) }
+{
+    for word in words {
+        if is_too_long(word) {
+            return true;
+        }
+    }
+    false
+}
+
+/// Makes the items of one call. What is refused takes no memory.
+pub fn items_of<A: Allocator + Copy>(alloc: A, words: Words<'_>) -> Result<Items<A>, Fail>
+    ensures same { IfOk result (λ items. items ≡ map item_bytes (words_left words.entry)) }
+    ensures refused { IfSome (refusal_of (words_left words.entry)) (λ refusal. result ≡ Err (Fail.Refused refusal)) }
+    ensures memory { IfNone (refusal_of (words_left words.entry)) (IfErr result (λ fail. fail ≡ Fail.OutOfMemory)) }
+{
+    if is_any_too_long(words) {
+        return Err(Fail::Refused(Refusal::BadArg(Argument::Item)));
+    }
+    let mut items = Vec::new(alloc);
+    for word in words {
+        let item = item_of(alloc, word)?;
+        items.push(item).map_err(|_| Fail::OutOfMemory)?;
+    }
+    Items::of(items).map_err(Fail::Refused)
+}

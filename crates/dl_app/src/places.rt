@@ -1,0 +1,60 @@
+// Where each client goes on reading.
+ghost use Rattle.std.specs.Prelude.{◌≡◌, ◌&&◌, false, OnOk, OnErr};
+ghost use Rattle.dl_types.specs.declared.name.ClientId.{ClientId};
+ghost use Rattle.dl_types.specs.declared.name.Name.{Name};
+ghost use Rattle.dl_types.specs.Name.{same_client, same_name};
+ghost use Rattle.dl_app.specs.Places.{place_of};
+
+use dl_types::{ClientId, Continuation, Name, Place};
+use indexmap::IndexMap;
+use std::alloc::{AllocError, Allocator};
+use std::hash::{BuildHasherDefault, FoldHasher};
+
+// A client, and a log that it reads.
+#[derive(Clone, Copy, PartialEq, Eq, Hash)]
+struct Reader {
+    client: ClientId,
+    log: Name,
+}
+
+/// The last place that a chunk gave to each client for each log.
+#[derive(Drop)]
+pub struct Places<A: Allocator> {
+    given: IndexMap<Reader, Continuation, BuildHasherDefault<FoldHasher>, A>,
+}
+
+impl<A: Allocator + Copy> Places<A> {
+    /// No place was given yet. It takes no memory.
+    pub fn new(alloc: A) -> Places<A>
+        ensures { (c : ClientId) (l : Name) → place_of result c l ≡ Place.Start }
+    {
+        Places {
+            given: IndexMap::new(alloc),
+        }
+    }
+
+    /// Where the client goes on in the log: at its start, where no place was given.
+    pub fn next(&self, client: ClientId, log: Name) -> Place
+        ensures { result ≡ place_of self.now client log }
+    {
+        match self.given.get(&Reader { client, log }) {
+            None => Place::Start,
+            Some(place) => Place::At(*place),
+        }
+    }
+
+    /// Keeps the place that a client was given in a log.
+    pub fn keep(
+        &mut self,
+        client: ClientId,
+        log: Name,
+        place: Continuation,
+    ) -> Result<(), AllocError>
+        ensures kept { OnOk result (place_of self.new client log ≡ Place.At place) }
+        ensures others { (c : ClientId) (l : Name) → (same_client client c && same_name log l) ≡ false → place_of self.new c l ≡ place_of self.old c l }
+        ensures unchanged { OnErr result ((c : ClientId) (l : Name) → place_of self.new c l ≡ place_of self.old c l) }
+    {
+        self.given.insert(Reader { client, log }, place)?;
+        Ok(())
+    }
+}

@@ -1,0 +1,88 @@
+//! The program: a script of calls on standard input, and its answers on standard output.
+#![tactic(auto)]
+
+use anyhow::Result;
+use clap::error::ErrorKind;
+use clap::{Command, Error};
+use dl_app::{ScriptFault, run_script};
+use dl_disk::MemoryDisk;
+use dl_hub::Hub;
+use std::alloc::{AllocError, Global};
+use std::fmt::Display;
+use std::io::{BufReader, BufWriter};
+use std::process::ExitCode;
+use std::{env, io};
+
+// The blocks of the cache.
+const BLOCKS: u32 = 16;
+
+// The bytes that are read, and written, at a time.
+const BUFFER_BYTES: usize = 65_536;
+
+// The status where the program could not do its work, and where what it was given is wrong.
+const FAILED: u8 = 1;
+
+const MISUSED: u8 = 2;
+
+fn main(rt: HostRuntime) -> Result<ExitCode> {
+    let args = match env::args(&rt) {
+        Ok(args) => args,
+        Err(error) => return Ok(tell(&rt, error, MISUSED)),
+    };
+    let words: Vec<String> = args.collect(rt.alloc())?;
+    let command = command(rt.alloc())?;
+    let matches = match command.try_get_matches_from(words.as_slice()) {
+        Ok(matches) => matches,
+        Err(error) => return Ok(show(&rt, &error)),
+    };
+    drop(matches);
+    Ok(run(&rt))
+}
+
+// Shows what was asked for, as the help, or what is wrong with the words.
+fn show(rt: &HostRuntime, error: &Error) -> ExitCode {
+    if error.kind() == ErrorKind::OutOfMemory {
+        return tell(rt, ScriptFault::OutOfMemory, FAILED);
+    }
+    match error.print(rt) {
+        Ok(()) => ExitCode::from(error.exit_code() as u8),
+        Err(_) => tell(rt, ScriptFault::Write, FAILED),
+    }
+}
+
+// The command line.
+fn command<'a>(alloc: Global) -> Result<Command<'a>, AllocError> {
+    let run = Command::new(alloc, "run").about(
+        "Run a script from standard input and print its answers",
+    );
+    Command::new(alloc, "dlog")
+        .version("0.1.0")
+        .about("A server of logs that keep their items in order and give them back in chunks")
+        .subcommand_required(true)
+        .subcommand(run)
+}
+
+// Runs the script on standard input over a disk in memory.
+fn run(rt: &HostRuntime) -> ExitCode {
+    let alloc = rt.alloc();
+    let mut hub = match Hub::new(alloc, MemoryDisk::new(alloc), BLOCKS) {
+        Ok(hub) => hub,
+        Err(fail) => return tell(rt, fail, FAILED),
+    };
+    let input = BufReader::with_capacity(alloc, BUFFER_BYTES, rt.reader());
+    let output = BufWriter::with_capacity(alloc, BUFFER_BYTES, io::writer(rt));
+    let (Ok(mut input), Ok(mut output)) = (input, output) else {
+        return tell(rt, ScriptFault::OutOfMemory, FAILED);
+    };
+    match run_script(alloc, &mut input, &mut output, &mut hub) {
+        Ok(()) => ExitCode::SUCCESS,
+        Err(fault @ ScriptFault::BadLine(_)) => tell(rt, fault, MISUSED),
+        Err(fault) => tell(rt, fault, FAILED),
+    }
+}
+
+// Says what went wrong on standard error. Where that is closed too, the status alone says it.
+fn tell(rt: &HostRuntime, what: impl Display + Drop, status: u8) -> ExitCode {
+    let _ = eprintln!(rt; "dlog: {what}");
+    ExitCode::from(status)
+}
