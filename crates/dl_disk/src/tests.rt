@@ -103,6 +103,8 @@ fn files_are_cut_renamed_listed_and_removed(rt: HostRuntime) -> Result<(), Fail>
     let (file, index) = two_files().ok_or("two files")?;
     let mut disk = disk_with(rt.alloc(), file)?;
     let calls = [
+        Call::Write(6, b"x"),
+        Call::Cut(7),
         Call::Cut(2),
         Call::Sync,
         Call::Rename(Part::Halt),
