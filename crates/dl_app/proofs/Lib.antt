@@ -1,2 +1,6 @@
 pub mod Numbers
 pub mod Spaces
+pub mod Forms
+pub mod Texts
+pub mod Kept
+pub mod Scripts

@@ -6,11 +6,11 @@ use Rattle.std.proofs.lemmas.List.Splits.{slice_split_first, length-slice_split}
 use Rattle.std.proofs.Math.Dec.{eqb-suc-zero}
 use Rattle.dl_app.specs.Words.{words_of, words_in}
 
-some_where : (b : Bool) (n k : ℕ) → cond b (Some n) None ≡ Some k → (b ≡ true) × (n ≡ k)
+pub some_where : (b : Bool) (n k : ℕ) → cond b (Some n) None ≡ Some k → (b ≡ true) × (n ≡ k)
 some_where true n k e = (refl, cc)
 some_where false n k e = let bad : ⊥ = cc in absurd bad
 
-none_where : (b : Bool) (n : ℕ) → cond b (Some n) None ≡ None → b ≡ false
+pub none_where : (b : Bool) (n : ℕ) → cond b (Some n) None ≡ None → b ≡ false
 none_where true n e = let bad : ⊥ = cc in absurd bad
 none_where false n e = refl
 

@@ -1,6 +1,10 @@
--- Bytes as text.
-use Rattle.std.specs.Prelude.{ℕ, ◌/◌, ◌%◌, List, [], ◌∷◌, slice_index}
+-- Answers as bytes.
+use Rattle.std.specs.Prelude.{◌≡◌, ℕ, ◌/◌, ◌%◌, List, [], ◌∷◌, ◌++◌, codes, slice_index}
+use Rattle.std.specs.Fmt.{decimal}
 use Rattle.std.specs.List.{flat_map}
+use Rattle.dl_types.specs.declared.refusal.Refusal.{Refusal}
+use Rattle.dl_types.specs.declared.reply.Reply.{Reply}
+use Rattle.dl_types.specs.declared.reply.Reply.TheVariants.{Opened, Done, Items, Eof, Refused, OutOfMemory}
 use Rattle.dl_app.specs.declared.answer.TheConstants.{DIGITS}
 
 -- a byte in two digits
@@ -11,3 +15,24 @@ hex byte = slice_index DIGITS (byte / 16) ∷ slice_index DIGITS (byte % 16) ∷
 abbrev pub item_text : List ℕ → List ℕ
 item_text [] = 32 ∷ 45 ∷ []
 item_text (b ∷ bytes) = 32 ∷ flat_map hex (b ∷ bytes)
+
+-- a number of bad bytes, and then items
+abbrev pub items_text : ℕ → List (List ℕ) → List ℕ
+items_text bad items = codes "items " ++ decimal bad ++ flat_map item_text items
+
+-- a text says why a call is refused: which text it is is left open here
+abbrev pub IsRefusalText : Refusal → List ℕ → Type 0
+IsRefusalText refusal text = Unit {0}
+
+-- a text says this reply
+abbrev pub IsReplyText : {Z : Type 0} → Reply Z → List ℕ → Type 0
+IsReplyText Opened text = text ≡ codes "opened"
+IsReplyText Done text = text ≡ codes "done"
+IsReplyText (Items next items bad) text = text ≡ items_text bad items
+IsReplyText Eof text = text ≡ codes "eof"
+IsReplyText (Refused refusal) text = IsRefusalText refusal text
+IsReplyText OutOfMemory text = text ≡ codes "out of memory"
+
+-- a text of this meaning, and a line feed
+abbrev pub IsLineOf : (List ℕ → Type 0) → List ℕ → Type 0
+IsLineOf Says bytes = (text : List ℕ) × Says text × (bytes ≡ text ++ 10 ∷ [])

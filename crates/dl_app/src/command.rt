@@ -1,6 +1,16 @@
 // The forms of a line.
-ghost use Rattle.std.specs.Prelude.{◌≡◌};
+ghost use Rattle.std.specs.Prelude.{◌≡◌, ◌≢◌, ℕ, [], ◌∷◌, Option, IfSome, IfNone, IfOk, IfErr, Err, Some, codes};
+ghost use Rattle.std.specs.List.{list_all};
+ghost use Rattle.dl_types.specs.declared.size.OpenArgs.{OpenArgs};
+ghost use Rattle.dl_types.specs.declared.size.Size.{Size};
+ghost use Rattle.dl_app.specs.declared.command.Call.{Call};
+ghost use Rattle.dl_app.specs.declared.command.Command.{Command};
+ghost use Rattle.dl_app.specs.declared.command.Start.{Start};
 ghost use Rattle.dl_app.specs.Lines.{is_passed_over};
+ghost use Rattle.dl_app.specs.Places.{place_of};
+ghost use Rattle.dl_app.specs.Items.{is_item};
+ghost use Rattle.dl_app.specs.Words.{words_of, words_left};
+ghost use Rattle.dl_app.specs.Command.{IsForm, GivesCall, GivesArgs, GivesSize, GivesChunk, call_word, start_word, event_in, refusal_in};
 
 use crate::items::{is_item, items_of};
 use crate::places::Places;
@@ -48,61 +58,126 @@ pub fn is_passed_over(line: &[u8]) -> bool
 }
 
 /// Reads a line. One of any other form is none.
-pub fn command_of(line: &[u8]) -> Option<Command<'_>> {
+pub fn command_of(line: &[u8]) -> Option<Command<'_>>
+    ensures form { IfSome result (λ command. IsForm (words_of line.now) command) }
+    ensures none { IfNone result ((command : Command) → IsForm (words_of line.now) command → ⊥) }
+{
     let mut words = Words::of(line);
     let first = words.next()?;
     if first == b"file".as_slice() {
-        let file = FileName::parse(words.next()?)?;
-        return words.is_empty().then_some(Command::File(file));
+        file_of(words)
+    } else {
+        call_of(first, words)
     }
+}
+
+// The file that is named behind the first word.
+fn file_of(mut words: Words<'_>) -> Option<Command<'_>>
+    ensures form { IfSome result (λ command. IsForm (codes "file" ∷ words_left words.entry) command) }
+    ensures none { IfNone result ((command : Command) → IsForm (codes "file" ∷ words_left words.entry) command → ⊥) }
+{
+    let file = FileName::parse(words.next()?)?;
+    words.is_empty().then_some(Command::File(file))
+}
+
+// The call of the client that the first word writes.
+fn call_of<'a>(first: &[u8], mut words: Words<'a>) -> Option<Command<'a>>
+    requires { first.now ≢ codes "file" }
+    ensures form { IfSome result (λ command. IsForm (first.now ∷ words_left words.entry) command) }
+    ensures none { IfNone result ((command : Command) → IsForm (first.now ∷ words_left words.entry) command → ⊥) }
+{
     let client = client(first)?;
     let verb = words.next()?;
     let log = Name::parse(words.next()?)?;
-    let call = call_of(verb, words)?;
+    let call = verb_of(verb, words)?;
     Some(Command::Call { client, log, call })
 }
 
 // The call of this verb with the words behind the name of the log.
-fn call_of<'a>(verb: &[u8], words: Words<'a>) -> Option<Call<'a>> {
-    match verb {
-        b"open" => Some(Call::Open(open_args(words)?)),
-        b"log" => log_items(words),
-        b"chunk" => chunk_of(words),
-        b"close" => words.is_empty().then_some(Call::Close),
-        _ => None,
+fn verb_of<'a>(verb: &[u8], words: Words<'a>) -> Option<Call<'a>>
+    ensures form { IfSome result (λ call. (verb.now ≡ call_word call) × GivesCall (words_left words.entry) call) }
+    ensures none { IfNone result ((call : Call) → verb.now ≡ call_word call → GivesCall (words_left words.entry) call → ⊥) }
+{
+    if verb == b"open".as_slice() {
+        Some(Call::Open(open_args(words)?))
+    } else if verb == b"log".as_slice() {
+        are_items(words).then_some(Call::Log(words))
+    } else if verb == b"chunk".as_slice() {
+        chunk_of(words)
+    } else if verb == b"close".as_slice() {
+        words.is_empty().then_some(Call::Close)
+    } else {
+        None
     }
 }
 
 // The kind, and the size where it is given.
-fn open_args(mut words: Words<'_>) -> Option<OpenArgs> {
+fn open_args(mut words: Words<'_>) -> Option<OpenArgs>
+    ensures form { IfSome result (λ args. GivesArgs (words_left words.entry) args) }
+    ensures none { IfNone result ((args : OpenArgs) → GivesArgs (words_left words.entry) args → ⊥) }
+{
     if words.next()? != b"halt".as_slice() {
         return None;
     }
-    let size = match words.next() {
-        None => None,
-        Some(option) => Some(size_option(option)?),
-    };
     let kind = Kind::Halt;
-    words.is_empty().then_some(OpenArgs { kind, size })
+    let size = size_in(words)?;
+    Some(OpenArgs { kind, size })
 }
 
-fn size_option(option: &[u8]) -> Option<Size> {
+// The size, which may be left out.
+fn size_in(mut words: Words<'_>) -> Option<Option<Size>>
+    ensures form { IfSome result (λ size. GivesSize (words_left words.entry) size) }
+    ensures none { IfNone result ((size : Option Size) → GivesSize (words_left words.entry) size → ⊥) }
+{
+    let Some(option) = words.next() else {
+        return Some(None);
+    };
+    let size = size_option(option)?;
+    words.is_empty().then_some(Some(size))
+}
+
+// The size that an option gives.
+fn size_option(option: &[u8]) -> Option<Size>
+    ensures form { IfSome result (λ size. GivesSize (option.now ∷ []) (Some size)) }
+    ensures none { IfNone result ((size : Size) → GivesSize (option.now ∷ []) (Some size) → ⊥) }
+{
     size(option.strip_prefix(b"size=")?)
 }
 
-fn log_items(words: Words<'_>) -> Option<Call<'_>> {
-    let mut items = words;
-    items.all(|word| is_item(word)).then_some(Call::Log(words))
+// Whether each word writes an item.
+fn are_items(words: Words<'_>) -> bool
+    ensures { result ≡ list_all is_item (words_left words.entry) }
+{
+    for word in words {
+        if !is_item(word) {
+            return false;
+        }
+    }
+    true
 }
 
-fn chunk_of(mut words: Words<'_>) -> Option<Call<'_>> {
-    let from = match words.next()? {
-        b"start" => Start::First,
-        b"next" => Start::Next,
-        _ => return None,
-    };
+// Where a chunk is to begin, and how many items it may have.
+fn chunk_of(mut words: Words<'_>) -> Option<Call<'_>>
+    ensures form { IfSome result (λ call. (call_word call ≡ codes "chunk") × GivesCall (words_left words.entry) call) }
+    ensures none { IfNone result ((from : Start) (most : ℕ) → GivesChunk (words_left words.entry) from most → ⊥) }
+{
+    let from = start_of(words.next()?)?;
     let most = number(words.next()?)?;
     words.is_empty().then_some(Call::Chunk { from, most })
+}
+
+// The beginning that a word asks for.
+fn start_of(word: &[u8]) -> Option<Start>
+    ensures form { IfSome result (λ from. word.now ≡ start_word from) }
+    ensures none { IfNone result ((from : Start) → word.now ≡ start_word from → ⊥) }
+{
+    if word == b"start".as_slice() {
+        Some(Start::First)
+    } else if word == b"next".as_slice() {
+        Some(Start::Next)
+    } else {
+        None
+    }
 }
 
 /// The event that a call is, or why it is refused before it is one.
@@ -112,7 +187,11 @@ pub fn event_of<A: Allocator + Copy>(
     log: Name,
     call: Call<'_>,
     places: &Places<A>,
-) -> Result<Event<A>, Fail> {
+) -> Result<Event<A>, Fail>
+    ensures event { IfOk result (λ event. event ≡ event_in client log call.entry (place_of places.now client log)) }
+    ensures refused { IfSome (refusal_in call.entry) (λ refusal. result ≡ Err (Fail.Refused refusal)) }
+    ensures memory { IfNone (refusal_in call.entry) (IfErr result (λ fail. fail ≡ Fail.OutOfMemory)) }
+{
     Ok(match call {
         Call::Open(args) => Event::Open { client, log, args },
         Call::Log(words) => Event::Log {

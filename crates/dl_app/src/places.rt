@@ -3,9 +3,9 @@ ghost use Rattle.std.specs.Prelude.{◌≡◌, ◌&&◌, false, OnOk, OnErr};
 ghost use Rattle.dl_types.specs.declared.name.ClientId.{ClientId};
 ghost use Rattle.dl_types.specs.declared.name.Name.{Name};
 ghost use Rattle.dl_types.specs.Name.{same_client, same_name};
-ghost use Rattle.dl_app.specs.Places.{place_of};
+ghost use Rattle.dl_app.specs.Places.{place_of, places_after};
 
-use dl_types::{ClientId, Continuation, Name, Place};
+use dl_types::{ClientId, Continuation, Name, Place, Reply};
 use indexmap::IndexMap;
 use std::alloc::{AllocError, Allocator};
 use std::hash::{BuildHasherDefault, FoldHasher};
@@ -43,13 +43,23 @@ impl<A: Allocator + Copy> Places<A> {
         }
     }
 
-    /// Keeps the place that a client was given in a log.
-    pub fn keep(
+    /// Keeps the place behind the items that a reply gave to a client, if it gave some.
+    pub fn keep_after(
         &mut self,
         client: ClientId,
         log: Name,
-        place: Continuation,
+        reply: &Reply<A>,
     ) -> Result<(), AllocError>
+        ensures { OnOk result (place_of self.new ≡ places_after reply.now client log (place_of self.old)) }
+    {
+        match reply {
+            Reply::Items { next, .. } => self.keep(client, log, *next),
+            _ => Ok(()),
+        }
+    }
+
+    // Keeps the place that a client was given in a log.
+    fn keep(&mut self, client: ClientId, log: Name, place: Continuation) -> Result<(), AllocError>
         ensures kept { OnOk result (place_of self.new client log ≡ Place.At place) }
         ensures others { (c : ClientId) (l : Name) → (same_client client c && same_name log l) ≡ false → place_of self.new c l ≡ place_of self.old c l }
         ensures unchanged { OnErr result ((c : ClientId) (l : Name) → place_of self.new c l ≡ place_of self.old c l) }

@@ -1,12 +1,22 @@
 // A script from its first line to its last.
-use crate::answer::{push_hex, push_outcome, push_refusal};
+ghost use Rattle.std.specs.Prelude.{◌≡◌, ◌≢◌, ◌+◌, ◌≤◌, ◌++◌, ◌∷◌, [], ℕ, List, Err, IfErr, OnOk, length};
+ghost use Rattle.std.specs.List.{flat_map};
+ghost use Rattle.std.specs.Io.KnownBytes.{Appends};
+ghost use Rattle.dl_app.specs.Answers.{hex};
+ghost use Rattle.dl_app.specs.Command.{event_in, refusal_in};
+ghost use Rattle.dl_app.specs.Lines.{HasLines};
+ghost use Rattle.dl_app.specs.Places.{place_of};
+ghost use Rattle.dl_app.specs.Script.{HasNoForm, IsAnswered, IsBadLine, IsCalled, IsLine, Runs, RunsOn, ShowsFile};
+ghost use Rattle.dl_app.specs.Session.{stage_of, IsAnswerFault};
+
+use crate::answer::{push_hex, put_outcome, put_refusal};
 use crate::command::{Call, Command, command_of, event_of, is_passed_over};
 use crate::fault::ScriptFault;
 use crate::lines::{LINES_LIMIT, NextLine, next_line};
 use crate::places::Places;
 use dl_disk::Disk;
 use dl_hub::{FileFault, Hub};
-use dl_types::{ClientId, Event, Fail, FileName, Name, Outcome, Refusal, Reply};
+use dl_types::{ClientId, Event, Fail, FileName, Name, Outcome, Refusal};
 use std::alloc::Allocator;
 use std::io::{BufRead, Write};
 
@@ -15,130 +25,186 @@ const SHOWN_BYTES: usize = 4_096;
 
 /// Runs a script on a hub and writes its answers, up to its end or the first fault.
 ///
-/// What was answered before a fault is written. Where that fails, the fault is the write's.
+/// What was answered before a fault is written. Where that fails, the fault is the write's. After a write that failed, and
+/// after want of memory, the contract leaves open which lines were run.
 pub fn run_script<R: BufRead, W: Write, D: Disk + Drop, A: Allocator + Copy>(
     alloc: A,
     input: &mut R,
     output: &mut W,
     hub: &mut Hub<D, A>,
-) -> Result<(), ScriptFault> {
+) -> Result<(), ScriptFault>
+    ensures whole { OnOk result ((lines : List (List ℕ)) × HasLines (R.remaining input.old) lines × (length lines ≤ LINES_LIMIT)
+        × RunsOn D.content D.honest D.faults D.known A lines hub.old hub.new (W.contents output.old) (W.contents output.new)) }
+    ensures bad_line { (k : ℕ) → result ≡ Err (ScriptFault.BadLine k) → (before : List (List ℕ)) × (line : List ℕ) × (others : List (List ℕ))
+        × HasLines (R.remaining input.old) (before ++ line ∷ others) × (length before ≤ LINES_LIMIT) × (k ≡ length before + 1) × IsBadLine k line
+        × RunsOn D.content D.honest D.faults D.known A before hub.old hub.new (W.contents output.old) (W.contents output.new) }
+    ensures unread { result ≡ Err ScriptFault.Read → (before : List (List ℕ)) × (others : List (List ℕ)) × HasLines (R.remaining input.old) (before ++ others) × (length before ≤ LINES_LIMIT)
+        × RunsOn D.content D.honest D.faults D.known A before hub.old hub.new (W.contents output.old) (W.contents output.new) }
+{
     let mut session = Session {
         alloc,
-        hub,
-        output,
         places: Places::new(alloc),
         events: Vec::new(alloc),
         outcomes: Vec::new(alloc),
         text: Vec::new(alloc),
     };
-    let ended = session.run_lines(input);
-    session.flush()?;
+    let ended = session.run_lines(input, output, hub);
+    output.flush().map_err(|_| ScriptFault::Write)?;
     ended
 }
 
 // A script under way. The events, the outcomes and the text are those of one line.
 #[derive(Drop)]
-struct Session<'h, 'w, W, D: Disk + Drop, A: Allocator + Copy> {
+struct Session<A: Allocator + Copy> {
     alloc: A,
-    hub: &'h mut Hub<D, A>,
-    output: &'w mut W,
     places: Places<A>,
     events: Vec<Event<A>, A>,
     outcomes: Vec<Outcome<A>, A>,
     text: Vec<u8, A>,
 }
 
-impl<W: Write, D: Disk + Drop, A: Allocator + Copy> Session<'_, '_, W, D, A> {
-    fn run_lines<R: BufRead>(&mut self, input: &mut R) -> Result<(), ScriptFault> {
+impl<A: Allocator + Copy> Session<A> {
+    // Runs the lines that the input has left.
+    fn run_lines<R: BufRead, W: Write, D: Disk + Drop>(
+        &mut self,
+        input: &mut R,
+        output: &mut W,
+        hub: &mut Hub<D, A>,
+    ) -> Result<(), ScriptFault>
+        ensures whole { OnOk result ((lines : List (List ℕ)) × HasLines (R.remaining input.old) lines × (length lines ≤ LINES_LIMIT)
+            × Runs D.content D.honest D.faults D.known A lines (stage_of hub.old self.old) (stage_of hub.new self.new) (W.contents output.old) (W.contents output.new)) }
+        ensures bad_line { (k : ℕ) → result ≡ Err (ScriptFault.BadLine k) → (before : List (List ℕ)) × (line : List ℕ) × (others : List (List ℕ))
+            × HasLines (R.remaining input.old) (before ++ line ∷ others) × (length before ≤ LINES_LIMIT) × (k ≡ length before + 1) × IsBadLine k line
+            × Runs D.content D.honest D.faults D.known A before (stage_of hub.old self.old) (stage_of hub.new self.new) (W.contents output.old) (W.contents output.new) }
+        ensures unread { result ≡ Err ScriptFault.Read → (before : List (List ℕ)) × (others : List (List ℕ)) × HasLines (R.remaining input.old) (before ++ others) × (length before ≤ LINES_LIMIT)
+            × Runs D.content D.honest D.faults D.known A before (stage_of hub.old self.old) (stage_of hub.new self.new) (W.contents output.old) (W.contents output.new) }
+    {
         let mut line = Vec::new(self.alloc);
         for number in 1..=LINES_LIMIT {
             match next_line(input, &mut line)? {
-                NextLine::Read => self.run_line(number, line.as_slice())?,
+                NextLine::Read => self.run_line(number, line.as_slice(), output, hub)?,
                 NextLine::TooLong => return Err(ScriptFault::BadLine(number)),
                 NextLine::End => return Ok(()),
             }
         }
         match next_line(input, &mut line)? {
             NextLine::End => Ok(()),
-            _ => Err(ScriptFault::BadLine(LINES_LIMIT + 1)),
+            NextLine::Read | NextLine::TooLong => Err(ScriptFault::BadLine(LINES_LIMIT + 1)),
         }
     }
 
-    fn run_line(&mut self, number: u64, line: &[u8]) -> Result<(), ScriptFault> {
+    // Runs the line of this number.
+    fn run_line<W: Write, D: Disk + Drop>(
+        &mut self,
+        number: u64,
+        line: &[u8],
+        output: &mut W,
+        hub: &mut Hub<D, A>,
+    ) -> Result<(), ScriptFault>
+        ensures done { OnOk result ((answer : List ℕ) × IsLine D.content D.honest D.faults D.known A line.now (stage_of hub.old self.old) (stage_of hub.new self.new) answer
+            × Appends (W.contents output.old) (W.contents output.new) answer) }
+        ensures bad { (k : ℕ) → result ≡ Err (ScriptFault.BadLine k) → (k ≡ number) × HasNoForm line.now × (stage_of hub.new self.new ≡ stage_of hub.old self.old) × (output.new ≡ output.old) }
+        ensures read { result ≢ Err ScriptFault.Read }
+    {
         if is_passed_over(line) {
             return Ok(());
         }
         match command_of(line).ok_or(ScriptFault::BadLine(number))? {
-            Command::File(file) => self.show_file(file),
-            Command::Call { client, log, call } => self.call(client, log, call),
+            Command::File(file) => show_file(file, &mut self.text, output, hub),
+            Command::Call { client, log, call } => self.call(client, log, call, output, hub),
         }
     }
 
-    fn call(&mut self, client: ClientId, log: Name, call: Call<'_>) -> Result<(), ScriptFault> {
+    // Does a call of a client on a log.
+    fn call<W: Write, D: Disk + Drop>(
+        &mut self,
+        client: ClientId,
+        log: Name,
+        call: Call<'_>,
+        output: &mut W,
+        hub: &mut Hub<D, A>,
+    ) -> Result<(), ScriptFault>
+        ensures done { OnOk result ((answer : List ℕ)
+            × IsCalled D.content D.honest D.faults D.known A (refusal_in call.entry) client log (event_in client log call.entry (place_of self.old.places client log)) (stage_of hub.old self.old) (stage_of hub.new self.new) answer
+            × Appends (W.contents output.old) (W.contents output.new) answer) }
+        ensures fault { IfErr result IsAnswerFault }
+    {
         match event_of(self.alloc, client, log, call, &self.places) {
-            Ok(event) => self.run_event(client, log, event),
-            Err(Fail::Refused(refusal)) => self.refuse(refusal),
+            Ok(event) => self.run_event(client, log, event, output, hub),
+            Err(Fail::Refused(refusal)) => {
+                put_refusal(&mut self.text, refusal)?;
+                write_answer(self.text.as_slice(), output)
+            }
             Err(Fail::OutOfMemory) => Err(ScriptFault::OutOfMemory),
         }
     }
 
-    fn run_event(
+    // Runs the event of a client on a log.
+    fn run_event<W: Write, D: Disk + Drop>(
         &mut self,
         client: ClientId,
         log: Name,
         event: Event<A>,
-    ) -> Result<(), ScriptFault> {
+        output: &mut W,
+        hub: &mut Hub<D, A>,
+    ) -> Result<(), ScriptFault>
+        ensures done { OnOk result ((answer : List ℕ) × IsAnswered D.content D.honest D.faults D.known A client log event (stage_of hub.old self.old) (stage_of hub.new self.new) answer
+            × Appends (W.contents output.old) (W.contents output.new) answer) }
+        ensures fault { IfErr result IsAnswerFault }
+    {
         self.outcomes.clear();
         self.events.clear();
         self.events.push(event)?;
-        self.hub.run(self.events.as_slice(), &mut self.outcomes)?;
-        for outcome in &self.outcomes {
-            if let Reply::Items { next, .. } = &outcome.reply {
-                self.places.keep(client, log, *next)?;
-            }
-            push_outcome(&mut self.text, outcome)?;
+        hub.run(self.events.as_slice(), &mut self.outcomes)?;
+        let outcome = &self.outcomes[0];
+        self.places.keep_after(client, log, &outcome.reply)?;
+        put_outcome(&mut self.text, outcome)?;
+        write_answer(self.text.as_slice(), output)
+    }
+}
+
+// Shows the bytes of a file.
+fn show_file<W: Write, D: Disk + Drop, A: Allocator + Copy>(
+    file: FileName,
+    text: &mut Vec<u8, A>,
+    output: &mut W,
+    hub: &mut Hub<D, A>,
+) -> Result<(), ScriptFault>
+    ensures shown { OnOk result ((answer : List ℕ) × ShowsFile D.content D.honest D.faults D.known file hub.old hub.new answer × Appends (W.contents output.old) (W.contents output.new) answer) }
+    ensures fault { IfErr result IsAnswerFault }
+{
+    match hub.read_file(file) {
+        Ok(Some(bytes)) => show_bytes(bytes.as_slice(), text, output),
+        Ok(None) => write_answer(b"no file\n", output),
+        Err(FileFault::Device) => {
+            put_refusal(text, Refusal::DeviceFault(file))?;
+            write_answer(text.as_slice(), output)
         }
-        self.write_text()
+        Err(FileFault::OutOfMemory) => Err(ScriptFault::OutOfMemory),
     }
+}
 
-    fn refuse(&mut self, refusal: Refusal) -> Result<(), ScriptFault> {
-        push_refusal(&mut self.text, refusal)?;
-        self.end_line()
+// Writes bytes in two digits each, and a line feed.
+fn show_bytes<W: Write, A: Allocator>(
+    bytes: &[u8],
+    text: &mut Vec<u8, A>,
+    output: &mut W,
+) -> Result<(), ScriptFault>
+    ensures shown { OnOk result (Appends (W.contents output.old) (W.contents output.new) (flat_map hex bytes.now ++ 10 ∷ [])) }
+    ensures fault { IfErr result IsAnswerFault }
+{
+    for part in bytes.chunks(SHOWN_BYTES) {
+        text.clear();
+        push_hex(text, part)?;
+        write_answer(text.as_slice(), output)?;
     }
+    write_answer(b"\n", output)
+}
 
-    fn show_file(&mut self, file: FileName) -> Result<(), ScriptFault> {
-        match self.hub.read_file(file) {
-            Ok(Some(bytes)) => self.show_bytes(bytes.as_slice()),
-            Ok(None) => {
-                self.text.extend_from_slice(b"no file")?;
-                self.end_line()
-            }
-            Err(FileFault::Device) => self.refuse(Refusal::DeviceFault(file)),
-            Err(FileFault::OutOfMemory) => Err(ScriptFault::OutOfMemory),
-        }
-    }
-
-    fn show_bytes(&mut self, bytes: &[u8]) -> Result<(), ScriptFault> {
-        for part in bytes.chunks(SHOWN_BYTES) {
-            push_hex(&mut self.text, part)?;
-            self.write_text()?;
-        }
-        self.end_line()
-    }
-
-    fn end_line(&mut self) -> Result<(), ScriptFault> {
-        self.text.push(b'\n')?;
-        self.write_text()
-    }
-
-    // Writes what there is of the text, and begins it anew.
-    fn write_text(&mut self) -> Result<(), ScriptFault> {
-        let written = self.output.write_all(self.text.as_slice());
-        self.text.clear();
-        written.map_err(|_| ScriptFault::Write)
-    }
-
-    fn flush(&mut self) -> Result<(), ScriptFault> {
-        self.output.flush().map_err(|_| ScriptFault::Write)
-    }
+// Writes an answer, or a part of one.
+fn write_answer<W: Write>(text: &[u8], output: &mut W) -> Result<(), ScriptFault>
+    ensures written { OnOk result (Appends (W.contents output.old) (W.contents output.new) text.now) }
+    ensures fault { IfErr result IsAnswerFault }
+{
+    output.write_all(text).map_err(|_| ScriptFault::Write)
 }

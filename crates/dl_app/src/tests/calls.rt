@@ -13,8 +13,10 @@ fn each_call_has_a_line(rt: HostRuntime) {
 
 #[test]
 fn a_full_log_keeps_what_it_took(rt: HostRuntime) {
-    let script = b"1 open h halt size=52\n1 log h 10*a 10*b 10*c\n1 chunk h start 9\n";
-    let text = b"opened\nE14 full\nitems 0 61616161616161616161 62626262626262626262\n";
+    let script =
+        b"1 open h halt size=52\n1 log h 10*a 10*b 10*c\n1 chunk h start 9\n1 close h\nfile h.log\n";
+    let text =
+        b"opened\nE14 full\nitems 0 61616161616161616161 62626262626262626262\ndone\n52444c315348555400000000000000010000000ad15c1060616161616161616161610000000ad15c106062626262626262626262\n";
     answers(&rt, script, text, Ok(()));
 }
 

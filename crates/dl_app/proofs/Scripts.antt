@@ -1,0 +1,125 @@
+-- Scripts, and one line more.
+use Rattle.std.proofs.Common.{◌≡◌, ◌≤◌, ℕ, Bool, List, [], ◌∷◌, ◌++◌, Option, Some, None, Result, Ok, Err, OnOk, IfSome, IfNone, length, drop, slice_index_or, refl, sym, ap, subst, ◌∙◌, append_assoc, append-nil, arith, ◌⊎◌, inl, inr}
+use Rattle.std.specs.Io.KnownBytes.{Appends, Keeps}
+use Rattle.dl_types.specs.declared.event.Event.{Event}
+use Rattle.dl_types.specs.declared.name.Base.{Base}
+use Rattle.dl_types.specs.declared.refusal.Fail.{Fail}
+use Rattle.dl_types.specs.declared.refusal.Fail.TheVariants.{Refused, OutOfMemory}
+use Rattle.dl_types.specs.declared.refusal.Refusal.{Refusal}
+use Rattle.dl_types.specs.declared.reply.Outcome.{Outcome}
+use Rattle.dl_types.specs.FileName.{Content}
+use Rattle.dl_hub.specs.View.{HubView}
+use Rattle.dl_hub.specs.Run.{IsRun}
+use Rattle.dl_types.specs.declared.name.ClientId.{ClientId}
+use Rattle.dl_types.specs.declared.name.Name.{Name}
+use Rattle.dl_types.specs.declared.place.Place.{Place}
+use Rattle.dl_types.specs.declared.place.Place.TheVariants.{Start}
+use Rattle.std.proofs.KnownBytes.{Appends-trans, Appends-kept}
+use Rattle.dl_app.specs.declared.lines.TheConstants.{LINE_LIMIT, LINES_LIMIT}
+use Rattle.dl_app.specs.declared.lines.NextLine.{NextLine}
+use Rattle.dl_app.specs.declared.lines.NextLine.TheVariants.{Read, TooLong}
+use Rattle.dl_app.specs.Lines.{lines_of, HasLines, TakesLines, IsNextTooLong}
+use Rattle.dl_app.specs.Script.{Stage, IsLine, IsScript, Runs, RunsOn}
+
+-- an answer that was written
+pub answered : {A E : Type 0} (r : Result A E) (Says Written : List ℕ → Type 0) (answer : List ℕ) → Says answer → OnOk r (Written answer) → OnOk r ((x : List ℕ) × Says x × Written x)
+answered (Ok x) Says Written answer says written = (answer, says, written)
+answered (Err e) Says Written answer says written = tt
+
+-- a call that was refused before it was an event
+pub refused_is : (A : Type 0) (o : Option Refusal) (fail : Fail) (refusal : Refusal) → fail ≡ Refused refusal → IfSome o (λ r. ◌≡◌ {A = Result A Fail} (Err fail) (Err (Refused r))) → IfNone o (fail ≡ OutOfMemory)
+    → o ≡ Some refusal
+refused_is A None fail refusal is some none = cc
+refused_is A (Some r) fail refusal is some none = cc
+
+-- ---- the lines of a reader
+
+pub takes_nil : (a : Option (List ℕ)) → TakesLines a a []
+takes_nil None = tt
+takes_nil (Some text) = refl
+
+pub takes_more : (a b c : Option (List ℕ)) (lines more : List (List ℕ)) → TakesLines a b lines → TakesLines b c more → TakesLines a c (lines ++ more)
+takes_more None b c lines more p q = tt
+takes_more (Some x) None c lines more p q = absurd p
+takes_more (Some x) (Some y) None lines more p q = absurd q
+takes_more (Some x) (Some y) (Some z) lines more p q = p ∙ ap (λ (l : List (List ℕ)). lines ++ l) q ∙ sym (append_assoc lines more (lines_of z))
+
+pub has_all : (a b : Option (List ℕ)) (lines more : List (List ℕ)) → TakesLines a b lines → HasLines b more → HasLines a (lines ++ more)
+has_all None b lines more p q = tt
+has_all (Some x) None lines more p q = absurd p
+has_all (Some x) (Some y) lines more p q = p ∙ ap (λ (l : List (List ℕ)). lines ++ l) q
+
+-- what a reader has left are lines
+pub has_some : (a : Option (List ℕ)) → (lines : List (List ℕ)) × HasLines a lines
+has_some None = ([], tt)
+has_some (Some text) = (lines_of text, refl)
+
+pub has_next : (a b : Option (List ℕ)) (line : List ℕ) → TakesLines a b (line ∷ []) → (others : List (List ℕ)) × HasLines a (line ∷ others)
+has_next None b line p = ([], tt)
+has_next (Some x) None line p = absurd p
+has_next (Some x) (Some y) line p = (lines_of y, p)
+
+-- a line that is there, of any length
+pub has_first : (a b : Option (List ℕ)) (line : List ℕ) (next : NextLine) → (next ≡ Read) ⊎ (next ≡ TooLong) → (next ≡ Read → TakesLines a b (line ∷ [])) → (next ≡ TooLong → IsNextTooLong a)
+    → (first : List ℕ) × (others : List (List ℕ)) × HasLines a (first ∷ others)
+has_first a b line next (inl is) read long = let some = has_next a b line (read is) in (line, some.0, some.1)
+has_first a b line next (inr is) read long = let some = long is in (some.0, some.1, some.2)
+
+module _ {D Z : Type 0} (content : D → Content) (honest : D → Bool) (faults : D → Base → ℕ) where
+  -- one event has one outcome
+  pub run_one : (old new : HubView D) (events : List (Event Z)) (outcomes : List (Outcome Z)) (before : ℕ) (event : Event Z) (outcome : Outcome Z)
+      → events ≡ event ∷ [] → before ≡ 0 → length outcomes ≡ 1 → outcome ≡ slice_index_or outcomes 0 outcome
+      → IsRun content honest faults old new events (drop before outcomes) → IsRun content honest faults old new (event ∷ []) (outcome ∷ [])
+  run_one old new events [] before event outcome is none one at run = absurd (omega arith)
+  run_one old new events (o ∷ []) before event outcome is none one at run =
+      subst (λ (p : Outcome Z). IsRun content honest faults old new (event ∷ []) (p ∷ [])) (sym at)
+      (subst (λ (es : List (Event Z)). IsRun content honest faults old new es (o ∷ [])) is
+      (subst (λ (n : ℕ). IsRun content honest faults old new events (drop n (o ∷ []))) none run))
+  run_one old new events (o ∷ p ∷ os) before event outcome is none one at run = absurd (omega arith)
+
+module _ {D : Type 0} (content : D → Content) (honest : D → Bool) (faults : D → Base → ℕ) (known : D → Base → Bool) (Z : Type 0) where
+  -- a script and a line behind it are a script
+  pub script_more : (lines : List (List ℕ)) (old mid new : Stage D) (answers : List ℕ) (line answer : List ℕ) → IsScript content honest faults known Z lines old mid answers
+      → length line ≤ LINE_LIMIT → IsLine content honest faults known Z line mid new answer → IsScript content honest faults known Z (lines ++ line ∷ []) old new (answers ++ answer)
+  script_more [] old mid new answers line answer script short step = (
+    short,
+    (
+      new,
+      answer,
+      [],
+      subst (λ (s : Stage D). IsLine content honest faults known Z line s new answer) script.0 step,
+      (refl, refl),
+      ap (λ (l : List ℕ). l ++ answer) script.1 ∙ sym (append-nil answer),
+    ),
+  )
+  script_more (first ∷ lines) old mid new answers line answer script short step =
+      let rest = script.1 in (
+        script.0,
+        (
+          rest.0,
+          rest.1,
+          rest.2 ++ answer,
+          rest.3,
+          script_more lines rest.0 mid new rest.2 line answer rest.4 short step,
+          ap (λ (l : List ℕ). l ++ answer) rest.5 ∙ append_assoc rest.1 rest.2 answer,
+        ),
+      )
+
+  -- lines and one behind them were run
+  pub runs_more : (lines : List (List ℕ)) (old mid new : Stage D) (line answer : List ℕ) (a b c : Option (List ℕ)) → Runs content honest faults known Z lines old mid a b
+      → length line ≤ LINE_LIMIT → IsLine content honest faults known Z line mid new answer → Appends b c answer → Runs content honest faults known Z (lines ++ line ∷ []) old new a c
+  runs_more lines old mid new line answer a b c runs short step written =
+      (runs.0 ++ answer, script_more lines old mid new runs.0 line answer runs.1 short step, Appends-trans a b c runs.0 answer runs.2 written)
+
+  -- a script that began where no place was given
+  pub runs_on : (lines : List (List ℕ)) (old new : HubView D) (start places : ClientId → Name → Place) (a b c : Option (List ℕ)) → start ≡ (λ client log. Start)
+      → Runs content honest faults known Z lines (record { hub = old; places = start }) (record { hub = new; places = places }) a b → Keeps b c → RunsOn content honest faults known Z lines old new a c
+  runs_on lines old new start places a b c is runs kept =
+      let at = subst (λ (p : ClientId → Name → Place). Runs content honest faults known Z lines (record { hub = old; places = p }) (record { hub = new; places = places }) a b) is runs in
+      (places, (at.0, at.1, Appends-kept a b c at.0 at.2 kept))
+
+  pub whole_on : {E : Type 0} (r : Result (Unit {0}) E) (old new : HubView D) (start places : ClientId → Name → Place) (input a b c : Option (List ℕ)) → start ≡ (λ client log. Start) → Keeps b c
+      → OnOk r ((lines : List (List ℕ)) × HasLines input lines × (length lines ≤ LINES_LIMIT) × Runs content honest faults known Z lines (record { hub = old; places = start }) (record { hub = new; places = places }) a b)
+      → OnOk r ((lines : List (List ℕ)) × HasLines input lines × (length lines ≤ LINES_LIMIT) × RunsOn content honest faults known Z lines old new a c)
+  whole_on (Ok x) old new start places input a b c is kept h = (h.0, h.1, h.2, runs_on h.0 old new start places a b c is h.3 kept)
+  whole_on (Err e) old new start places input a b c is kept h = tt

@@ -1,0 +1,19 @@
+use Rattle.std.proofs.Common.{rules, ◌≡◌, codes}
+use Rattle.dl_app.specs.Words.{words_left}
+use Rattle.dl_app.proofs.Forms.{none_holds, none_maps, no_open, no_chunk, close_form}
+use Rattle.dl_app.proofs.command.verb_of.Goals as goal
+
+pub returns-in_err-open_args-clause-none : goal.returns-in_err-open_args-clause-none
+returns-in_err-open_args-clause-none c =
+    let is : c.args.verb.now ≡ codes "open" = search rules in
+    none_holds _ _ (no_open c.args.verb.now (words_left c.args.words) is c.in_err-open_args.ensures.none)
+
+pub returns-then-eq-3-clause-none : goal.returns-then-eq-3-clause-none
+returns-then-eq-3-clause-none c =
+    let is : c.args.verb.now ≡ codes "chunk" = search rules in
+    none_maps _ _ _ (no_chunk c.args.verb.now (words_left c.args.words) is) c.chunk_of.ensures.none
+
+pub returns-then-eq-4-clause-form : goal.returns-then-eq-4-clause-form
+returns-then-eq-4-clause-form c =
+    let is : c.args.verb.now ≡ codes "close" = search rules in
+    close_form c.args.verb.now (words_left c.args.words) is _ c.is_empty.ensures _ c.then_some-then-eq-4.ensures

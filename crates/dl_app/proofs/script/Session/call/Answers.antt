@@ -1,0 +1,25 @@
+use Rattle.std.proofs.Common.{◌≡◌, Option, Some, refl, sym, subst}
+use Rattle.std.specs.Io.KnownBytes.{Appends}
+use Rattle.dl_types.specs.declared.refusal.Refusal.{Refusal}
+use Rattle.dl_app.specs.Answers.{IsLineOf, IsRefusalText}
+use Rattle.dl_app.specs.Command.{event_in, refusal_in}
+use Rattle.dl_app.specs.Places.{place_of}
+use Rattle.dl_app.specs.Script.{IsCalled}
+use Rattle.dl_app.specs.Session.{stage_of}
+use Rattle.dl_app.proofs.Scripts.{answered, refused_is}
+use Rattle.dl_app.proofs.script.Session.call.Goals as goal
+
+pub returns-in_ok-put_refusal-in-Err-Refused-clause-done :
+    goal.returns-in_ok-put_refusal-in-Err-Refused-clause-done
+returns-in_ok-put_refusal-in-Err-Refused-clause-done g c =
+    let D = g.D.Disk in
+    let refusal = c.in-Err-Refused.refusal in
+    let is : refusal_in c.args.call ≡ Some refusal =
+    refused_is _ (refusal_in c.args.call) _ refusal c.in-Err-Refused.field-0-is c.in-Err-Refused.ensures.refused c.in-Err-Refused.ensures.memory in
+    let old = stage_of c.args.hub.now c.args.self.now in
+    let event = event_in {Z = g.row.A.Denot} c.args.client c.args.log c.args.call (place_of c.args.self.now.places c.args.client c.args.log) in
+    let line = subst (IsLineOf (IsRefusalText refusal)) (sym c.as_slice.ensures.value) c.in_ok-put_refusal-in-Err-Refused.ensures.line in
+    answered c.write_answer.result (IsCalled D.content D.honest D.faults D.known g.row.A.Denot (refusal_in c.args.call) c.args.client c.args.log event old old)
+    (Appends (g.W.Write.contents c.args.output.now) (g.W.Write.contents c.write_answer.new.output)) c.as_slice.result.now
+    (subst (λ (o : Option Refusal). IsCalled D.content D.honest D.faults D.known g.row.A.Denot o c.args.client c.args.log event old old c.as_slice.result.now) (sym is) (refl, line))
+    c.write_answer.ensures.written

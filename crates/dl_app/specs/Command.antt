@@ -1,0 +1,90 @@
+-- The forms of a line, and the event that a call is.
+use Rattle.std.specs.Prelude.{◌≡◌, ℕ, true, List, [], ◌∷◌, ◌++◌, map, Option, Some, None, codes}
+use Rattle.std.specs.List.{list_all}
+use Rattle.dl_types.specs.declared.event.Event.{Event}
+use Rattle.dl_types.specs.declared.event.Event.TheVariants as event
+use Rattle.dl_types.specs.declared.name.ClientId.{ClientId}
+use Rattle.dl_types.specs.declared.name.Name.{Name}
+use Rattle.dl_types.specs.declared.place.Place.{Place}
+use Rattle.dl_types.specs.declared.place.Place.TheVariants as place
+use Rattle.dl_types.specs.declared.refusal.Refusal.{Refusal}
+use Rattle.dl_types.specs.declared.size.Kind.{Kind}
+use Rattle.dl_types.specs.declared.size.Kind.TheVariants.{Halt}
+use Rattle.dl_types.specs.declared.size.OpenArgs.{OpenArgs}
+use Rattle.dl_types.specs.declared.size.Size.{Size}
+use Rattle.dl_types.specs.Name.{IsNameText, name_of}
+use Rattle.dl_types.specs.FileText.{IsFileName, file_text}
+use Rattle.dl_app.specs.declared.command.Command.{Command}
+use Rattle.dl_app.specs.declared.command.Command.TheVariants as command
+use Rattle.dl_app.specs.declared.command.Call.{Call}
+use Rattle.dl_app.specs.declared.command.Call.TheVariants as call
+use Rattle.dl_app.specs.declared.command.Start.{Start}
+use Rattle.dl_app.specs.declared.command.Start.TheVariants as start
+use Rattle.dl_app.specs.Words.{words_left, number_in, client_of, WritesSize}
+use Rattle.dl_app.specs.Items.{is_item, item_bytes, refusal_of}
+
+-- the word of a kind of log
+abbrev pub kind_word : Kind → List ℕ
+kind_word Halt = codes "halt"
+
+-- the option of a size, or nothing
+abbrev pub GivesSize : List (List ℕ) → Option Size → Type 0
+GivesSize words None = words ≡ []
+GivesSize words (Some size) = (word : List ℕ) × WritesSize word (Some size) × (words ≡ (codes "size=" ++ word) ∷ [])
+
+-- how a log is to be opened: its kind, and then its size
+abbrev pub GivesArgs : List (List ℕ) → OpenArgs → Type 0
+GivesArgs words args = (options : List (List ℕ)) × GivesSize options args.size × (words ≡ kind_word args.kind ∷ options)
+
+-- the word for where a chunk is to begin
+abbrev pub start_word : Start → List ℕ
+start_word start.First = codes "start"
+start_word start.Next = codes "next"
+
+-- where a chunk is to begin, and then how many items it may have
+abbrev pub GivesChunk : List (List ℕ) → Start → ℕ → Type 0
+GivesChunk words from most = (count : List ℕ) × (number_in count ≡ Some most) × (words ≡ start_word from ∷ count ∷ [])
+
+-- the word of a call
+abbrev pub call_word : Call → List ℕ
+call_word (call.Open args) = codes "open"
+call_word (call.Log items) = codes "log"
+call_word (call.Chunk from most) = codes "chunk"
+call_word call.Close = codes "close"
+
+-- the words of a call behind the name of its log
+abbrev pub GivesCall : List (List ℕ) → Call → Type 0
+GivesCall words (call.Open args) = GivesArgs words args
+GivesCall words (call.Log items) = (list_all is_item words ≡ true) × (words_left items ≡ words)
+GivesCall words (call.Chunk from most) = GivesChunk words from most
+GivesCall words call.Close = words ≡ []
+
+-- a client, the word of a call, the name of a log, and the other words of the call
+abbrev pub IsCallForm : List (List ℕ) → ClientId → Name → Call → Type 0
+IsCallForm words client log c =
+    (first : List ℕ) × (name : List ℕ) × (others : List (List ℕ)) × (client_of (number_in first) ≡ Some client) × IsNameText name × (log ≡ name_of name) × GivesCall others c
+    × (words ≡ first ∷ call_word c ∷ name ∷ others)
+
+-- the words of a line have the form of this command
+abbrev pub IsForm : List (List ℕ) → Command → Type 0
+IsForm words (command.Call client log c) = IsCallForm words client log c
+IsForm words (command.File file) = IsFileName file × (words ≡ codes "file" ∷ file_text file ∷ [])
+
+-- where a chunk begins
+abbrev pub place_from : Start → Place → Place
+place_from start.First next = place.Start
+place_from start.Next next = next
+
+-- the event of a call
+abbrev pub event_in : {Z : Type 0} → ClientId → Name → Call → Place → Event Z
+event_in client log (call.Open args) next = event.Open client log args
+event_in client log (call.Log items) next = event.Log client log (map item_bytes (words_left items))
+event_in client log (call.Chunk from most) next = event.Chunk client log (place_from from next) most
+event_in client log call.Close next = event.Close client log
+
+-- why a call is refused before it is an event
+abbrev pub refusal_in : Call → Option Refusal
+refusal_in (call.Open args) = None
+refusal_in (call.Log items) = refusal_of (words_left items)
+refusal_in (call.Chunk from most) = None
+refusal_in call.Close = None

@@ -1,0 +1,105 @@
+-- What a script does and answers, line by line.
+use Rattle.std.specs.Prelude.{◌≡◌, ◌⊎◌, ◌+◌, ◌<◌, ◌≤◌, ℕ, List, [], ◌∷◌, ◌++◌, Bool, true, false, IsTrue, Option, Some, None, Result, Ok, Err, IfOk, codes, length}
+use Rattle.std.specs.List.{flat_map}
+use Rattle.std.specs.FinMap as map
+use Rattle.std.specs.Io.KnownBytes.{Appends}
+use Rattle.dl_types.specs.declared.event.Event.{Event}
+use Rattle.dl_types.specs.declared.file.FileName.{FileName}
+use Rattle.dl_types.specs.declared.name.Base.{Base}
+use Rattle.dl_types.specs.declared.name.ClientId.{ClientId}
+use Rattle.dl_types.specs.declared.name.Name.{Name}
+use Rattle.dl_types.specs.declared.place.Place.{Place}
+use Rattle.dl_types.specs.declared.place.Place.TheVariants.{Start}
+use Rattle.dl_types.specs.declared.refusal.Refusal.{Refusal}
+use Rattle.dl_types.specs.declared.refusal.Refusal.TheVariants.{DeviceFault}
+use Rattle.dl_types.specs.declared.reply.Outcome.{Outcome}
+use Rattle.dl_types.specs.FileName.{Content}
+use Rattle.dl_disk.specs.Acts.{ActsOn}
+use Rattle.dl_disk.specs.Disk.{Rises}
+use Rattle.dl_hub.specs.declared.fault.FileFault.{FileFault}
+use Rattle.dl_hub.specs.declared.fault.FileFault.TheVariants as fault
+use Rattle.dl_hub.specs.View.{HubView}
+use Rattle.dl_hub.specs.Run.{IsRun}
+use Rattle.dl_app.specs.declared.command.Command.{Command}
+use Rattle.dl_app.specs.declared.command.Command.TheVariants.{Call, File}
+use Rattle.dl_app.specs.declared.lines.TheConstants.{LINE_LIMIT, LINES_LIMIT}
+use Rattle.dl_app.specs.Answers.{hex, IsLineOf, IsRefusalText, IsReplyText}
+use Rattle.dl_app.specs.Command.{IsForm, event_in, refusal_in}
+use Rattle.dl_app.specs.Lines.{is_passed_over}
+use Rattle.dl_app.specs.Places.{places_after}
+use Rattle.dl_app.specs.Words.{words_of}
+
+-- what a script has come to: a hub, and where each client goes on in each log
+pub record Stage (D : Type 0) : Type 0 where
+  pub hub : HubView D
+  pub places : ClientId → Name → Place
+
+-- the beginning of a script, where each client goes on at the start
+abbrev pub first_stage : {D : Type 0} → HubView D → Stage D
+first_stage hub = record { hub = hub; places = λ c l. Start }
+
+-- a text says what was read of a file; want of memory is not answered
+abbrev pub IsShown : FileName → Result (Option (List ℕ)) FileFault → List ℕ → Type 0
+IsShown file (Ok (Some bytes)) text = text ≡ flat_map hex bytes
+IsShown file (Ok None) text = text ≡ codes "no file"
+IsShown file (Err fault.Device) text = IsRefusalText (DeviceFault file) text
+IsShown file (Err fault.OutOfMemory) text = ⊥
+
+module _ {D : Type 0} (content : D → Content) (honest : D → Bool) (faults : D → Base → ℕ) (known : D → Base → Bool) where
+  -- a file was read: the logs and the files stay, and what was read is what the file has
+  pub record HasRead (file : FileName) (old new : HubView D) (shown : Result (Option (List ℕ)) FileFault) : Type 0 where
+    pub logs : new.logs ≡ old.logs
+    pub files : IsTrue (honest new.disk) → content new.disk ≡ content old.disk
+    pub acts : ActsOn content honest faults known file.base old.disk new.disk
+    pub text : IsTrue (honest new.disk) → IfOk shown (λ text. text ≡ map.get (content old.disk) file)
+    pub fault : shown ≡ Err fault.Device → Rises (faults old.disk file.base) (faults new.disk file.base)
+
+  -- a file is shown
+  abbrev pub ShowsFile : FileName → HubView D → HubView D → List ℕ → Type 0
+  ShowsFile file old new answer = (shown : Result (Option (List ℕ)) FileFault) × HasRead file old new shown × IsLineOf (IsShown file shown) answer
+
+module _ {D : Type 0} (content : D → Content) (honest : D → Bool) (faults : D → Base → ℕ) (known : D → Base → Bool) (Z : Type 0) where
+  -- an event of a client on a log is run by itself, and its reply is the answer
+  pub record IsAnswered (client : ClientId) (log : Name) (event : Event Z) (old new : Stage D) (answer : List ℕ) : Type 0 where
+    pub outcome : Outcome Z
+    pub run : IsRun content honest faults old.hub new.hub (event ∷ []) (outcome ∷ [])
+    pub places : new.places ≡ places_after outcome.reply client log old.places
+    pub line : IsLineOf (IsReplyText outcome.reply) answer
+
+  -- a call that is refused before it is an event changes nothing
+  abbrev pub IsCalled : Option Refusal → ClientId → Name → Event Z → Stage D → Stage D → List ℕ → Type 0
+  IsCalled (Some refusal) client log event old new answer = (new ≡ old) × IsLineOf (IsRefusalText refusal) answer
+  IsCalled None client log event old new answer = IsAnswered client log event old new answer
+
+  -- what a command does
+  abbrev pub IsDone : Command → Stage D → Stage D → List ℕ → Type 0
+  IsDone (Call client log c) old new answer = IsCalled (refusal_in c) client log (event_in client log c (old.places client log)) old new answer
+  IsDone (File file) old new answer = (new.places ≡ old.places) × ShowsFile content honest faults known file old.hub new.hub answer
+
+  -- what a line does: nothing, or what its command does
+  abbrev pub IsLine : List ℕ → Stage D → Stage D → List ℕ → Type 0
+  IsLine line old new answer =
+      ((is_passed_over line ≡ true) × (new ≡ old) × (answer ≡ []))
+      ⊎ ((is_passed_over line ≡ false) × ((command : Command) × IsForm (words_of line) command × IsDone command old new answer))
+
+  -- what lines do, one after another, and their answers
+  abbrev pub IsScript : List (List ℕ) → Stage D → Stage D → List ℕ → Type 0
+  IsScript [] old new answers = (new ≡ old) × (answers ≡ [])
+  IsScript (line ∷ lines) old new answers =
+      (length line ≤ LINE_LIMIT) × ((mid : Stage D) × (first : List ℕ) × (others : List ℕ) × IsLine line old mid first × IsScript lines mid new others × (answers ≡ first ++ others))
+
+  -- lines were run, and their answers are written
+  abbrev pub Runs : List (List ℕ) → Stage D → Stage D → Option (List ℕ) → Option (List ℕ) → Type 0
+  Runs lines old new written after = (answers : List ℕ) × IsScript lines old new answers × Appends written after answers
+
+  -- a script of these lines was run on a hub
+  abbrev pub RunsOn : List (List ℕ) → HubView D → HubView D → Option (List ℕ) → Option (List ℕ) → Type 0
+  RunsOn lines old new written after = (places : ClientId → Name → Place) × Runs lines (first_stage old) (record { hub = new; places = places }) written after
+
+-- a line of no form
+abbrev pub HasNoForm : List ℕ → Type 0
+HasNoForm line = (is_passed_over line ≡ false) × ((command : Command) → IsForm (words_of line) command → ⊥)
+
+-- line k is too long, of no form, or one too many
+abbrev pub IsBadLine : ℕ → List ℕ → Type 0
+IsBadLine k line = (LINE_LIMIT < length line) ⊎ (HasNoForm line ⊎ (k ≡ LINES_LIMIT + 1))
