@@ -1,4 +1,5 @@
 // Why a call of a disk failed.
+use std::io;
 use thiserror::Error;
 
 /// A call of the device failed, or was one that no device can do, as a write to a file that is not there.
@@ -13,4 +14,13 @@ pub enum ListFault {
     Device,
     #[error("out of memory")]
     OutOfMemory,
+}
+
+impl From<io::Error> for ListFault {
+    fn from(error: io::Error) -> ListFault {
+        match error.kind() {
+            io::ErrorKind::OutOfMemory => ListFault::OutOfMemory,
+            _ => ListFault::Device,
+        }
+    }
 }

@@ -138,7 +138,7 @@ pub(crate) fn names<A: Allocator, B: Allocator>(
 }
 
 /// Copies bytes from an offset on, as many as there are and the buffer takes.
-pub(crate) fn copy_from(text: &[u8], at: u64, buffer: &mut [u8]) -> usize
+pub fn copy_from(text: &[u8], at: u64, buffer: &mut [u8]) -> usize
     ensures within { result ≤ length buffer.old }
     ensures read { take result buffer.new ≡ take (length buffer.old) (drop at text.now) }
 {

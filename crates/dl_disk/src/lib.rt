@@ -5,10 +5,15 @@ mod counts;
 mod disk;
 mod fault;
 mod files;
+mod folder;
+mod fuse;
 mod memory;
 #[cfg(test)]
 mod tests;
 
 pub use disk::Disk;
 pub use fault::{Fault, ListFault};
+pub use files::copy_from;
+pub use folder::FolderDisk;
+pub use fuse::{Fuse, FuseDisk};
 pub use memory::MemoryDisk;

@@ -1,4 +1,7 @@
 // A disk in memory, call by call: what it answers, and what it counts as a fault.
+mod folder;
+mod fuse;
+
 use crate::{Disk, Fault, ListFault, MemoryDisk};
 use dl_types::{Base, FileName, Part};
 use linked_list_allocator::LocalHeap;
@@ -9,6 +12,8 @@ const TEXT: &[u8; 6] = b"abcdef";
 
 #[derive(Clone, Copy)]
 enum Call<'a> {
+    Size,
+    Read,
     Put(&'a [u8]),
     Write(u64, &'a [u8]),
     Cut(u64),
@@ -18,13 +23,15 @@ enum Call<'a> {
 }
 
 // Makes a call on a file. Its base is known from here on.
-fn make<A: Allocator + Copy>(
-    disk: &mut MemoryDisk<A>,
+fn make<D: Disk>(
+    disk: &mut D,
     file: FileName,
     call: Call<'_>,
 ) -> Result<Result<(), Fault>, AllocError> {
     disk.know(file.base)?;
     Ok(match call {
+        Call::Size => disk.size(file).map(|_| ()),
+        Call::Read => disk.read_at(file, 0, &mut [0; 4]).map(|_| ()),
         Call::Put(bytes) => disk.put(file, bytes),
         Call::Write(at, bytes) => disk.write_at(file, at, bytes),
         Call::Cut(size) => disk.cut(file, size),

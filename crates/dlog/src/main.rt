@@ -3,18 +3,15 @@
 
 use anyhow::Result;
 use clap::error::ErrorKind;
-use clap::{Command, Error};
+use clap::{Arg, ArgMatches, Command, Error, value_parser};
 use dl_app::{ScriptFault, run_script};
-use dl_disk::MemoryDisk;
+use dl_disk::{Disk, FolderDisk, ListFault, MemoryDisk};
 use dl_hub::Hub;
 use std::alloc::{AllocError, Global};
 use std::fmt::Display;
 use std::io::{BufReader, BufWriter};
 use std::process::ExitCode;
 use std::{env, io};
-
-// The blocks of the cache.
-const BLOCKS: u32 = 16;
 
 // The bytes that are read, and written, at a time.
 const BUFFER_BYTES: usize = 65_536;
@@ -35,8 +32,10 @@ fn main(rt: HostRuntime) -> Result<ExitCode> {
         Ok(matches) => matches,
         Err(error) => return Ok(show(&rt, &error)),
     };
-    drop(matches);
-    Ok(run(&rt))
+    let Some(options) = matches.subcommand_matches("run") else {
+        return Ok(ExitCode::from(MISUSED));
+    };
+    Ok(run(&rt, options))
 }
 
 // Shows what was asked for, as the help, or what is wrong with the words.
@@ -52,9 +51,22 @@ fn show(rt: &HostRuntime, error: &Error) -> ExitCode {
 
 // The command line.
 fn command<'a>(alloc: Global) -> Result<Command<'a>, AllocError> {
-    let run = Command::new(alloc, "run").about(
-        "Run a script from standard input and print its answers",
-    );
+    let folder = Arg::new(alloc, "folder")
+        .long("folder")
+        .value_name("DIR")
+        .help(
+            "Keep the files in the folder DIR, which has to be there. Without it they are in memory",
+        );
+    let blocks = Arg::new(alloc, "blocks")
+        .long("blocks")
+        .value_name("N")
+        .value_parser(value_parser!(u32).range(1..=65_536))
+        .default_value("16")
+        .help("Give the cache N blocks, from 1 to 65536");
+    let run = Command::new(alloc, "run")
+        .about("Run a script from standard input and print its answers")
+        .arg(folder)?
+        .arg(blocks)?;
     Command::new(alloc, "dlog")
         .version("0.1.0")
         .about("A server of logs that keep their items in order and give them back in chunks")
@@ -62,10 +74,31 @@ fn command<'a>(alloc: Global) -> Result<Command<'a>, AllocError> {
         .subcommand(run)
 }
 
-// Runs the script on standard input over a disk in memory.
-fn run(rt: &HostRuntime) -> ExitCode {
+// Runs the script on standard input over the disk that the options name.
+fn run(rt: &HostRuntime, options: &ArgMatches<'_>) -> ExitCode {
+    let Some(blocks) = options.get_one("blocks") else {
+        return ExitCode::from(MISUSED);
+    };
+    let Some(path) = options.get_str("folder") else {
+        return run_over(rt, MemoryDisk::new(rt.alloc()), blocks);
+    };
+    match open_folder(rt, path) {
+        Ok(disk) => run_over(rt, disk, blocks),
+        Err(ListFault::Device) => tell(rt, "folder", FAILED),
+        Err(ListFault::OutOfMemory) => tell(rt, ScriptFault::OutOfMemory, FAILED),
+    }
+}
+
+// The disk over the folder at this path.
+fn open_folder(rt: &HostRuntime, path: &str) -> Result<FolderDisk<HostRuntime>, ListFault> {
+    let own = rt.clone().map_err(|_| ListFault::OutOfMemory)?;
+    FolderDisk::open(own, path)
+}
+
+// Runs the script on standard input over a disk.
+fn run_over<D: Disk + Drop>(rt: &HostRuntime, disk: D, blocks: u32) -> ExitCode {
     let alloc = rt.alloc();
-    let mut hub = match Hub::new(alloc, MemoryDisk::new(alloc), BLOCKS) {
+    let mut hub = match Hub::new(alloc, disk, blocks) {
         Ok(hub) => hub,
         Err(fail) => return tell(rt, fail, FAILED),
     };
