@@ -32,6 +32,11 @@ pub refused_is : (A : Type 0) (o : Option Refusal) (fail : Fail) (refusal : Refu
 refused_is A None fail refusal is some none = cc
 refused_is A (Some r) fail refusal is some none = cc
 
+-- a call that was an event was not refused
+pub called_is : {X : Type 0} (o : Option Refusal) (event : X) → IfSome o (λ r. ◌≡◌ {A = Result X Fail} (Ok event) (Err (Refused r))) → o ≡ None
+called_is None event some = refl
+called_is (Some r) event some = let bad : ⊥ = cc in absurd bad
+
 -- ---- the lines of a reader
 
 pub takes_nil : (a : Option (List ℕ)) → TakesLines a a []

@@ -4,7 +4,11 @@ use Rattle.std.specs.Fmt.{decimal}
 use Rattle.std.specs.List.{flat_map}
 use Rattle.dl_types.specs.declared.refusal.Refusal.{Refusal}
 use Rattle.dl_types.specs.declared.reply.Reply.{Reply}
-use Rattle.dl_types.specs.declared.reply.Reply.TheVariants.{Opened, Done, Items, Eof, Refused, OutOfMemory}
+use Rattle.dl_types.specs.declared.reply.Reply.TheVariants as reply
+use Rattle.dl_types.specs.declared.reply.Turn.{Turn}
+use Rattle.dl_types.specs.declared.reply.Turn.TheVariants.{Drained, Idle, Fault}
+use Rattle.dl_types.specs.Name.{name_text}
+use Rattle.dl_types.specs.Printed.{characters_of}
 use Rattle.dl_app.specs.declared.answer.TheConstants.{DIGITS}
 
 -- a byte in two digits
@@ -24,14 +28,26 @@ items_text bad items = codes "items " ++ decimal bad ++ flat_map item_text items
 abbrev pub IsRefusalText : Refusal → List ℕ → Type 0
 IsRefusalText refusal text = Unit {0}
 
+-- how many items were kept, and how many bytes cut
+abbrev pub repaired_text : ℕ → ℕ → List ℕ
+repaired_text recovered bad = codes "repaired " ++ decimal recovered ++ codes " " ++ decimal bad
+
+-- what became of the oldest block
+abbrev pub turn_text : Turn → List ℕ
+turn_text (Drained log) = codes "turn drained " ++ characters_of (name_text log)
+turn_text Idle = codes "turn idle"
+turn_text (Fault log) = codes "turn fault " ++ characters_of (name_text log)
+
 -- a text says this reply
 abbrev pub IsReplyText : {Z : Type 0} → Reply Z → List ℕ → Type 0
-IsReplyText Opened text = text ≡ codes "opened"
-IsReplyText Done text = text ≡ codes "done"
-IsReplyText (Items next items bad) text = text ≡ items_text bad items
-IsReplyText Eof text = text ≡ codes "eof"
-IsReplyText (Refused refusal) text = IsRefusalText refusal text
-IsReplyText OutOfMemory text = text ≡ codes "out of memory"
+IsReplyText reply.Opened text = text ≡ codes "opened"
+IsReplyText (reply.Repaired recovered bad) text = text ≡ repaired_text recovered bad
+IsReplyText reply.Done text = text ≡ codes "done"
+IsReplyText (reply.Items next items bad) text = text ≡ items_text bad items
+IsReplyText reply.Eof text = text ≡ codes "eof"
+IsReplyText (reply.Turn turn) text = text ≡ turn_text turn
+IsReplyText (reply.Refused refusal) text = IsRefusalText refusal text
+IsReplyText reply.OutOfMemory text = text ≡ codes "out of memory"
 
 -- a text of this meaning, and a line feed
 abbrev pub IsLineOf : (List ℕ → Type 0) → List ℕ → Type 0

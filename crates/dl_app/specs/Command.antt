@@ -1,5 +1,5 @@
 -- The forms of a line, and the event that a call is.
-use Rattle.std.specs.Prelude.{◌≡◌, ℕ, true, List, [], ◌∷◌, ◌++◌, map, Option, Some, None, codes}
+use Rattle.std.specs.Prelude.{◌≡◌, ℕ, true, List, [], ◌∷◌, map, Option, Some, None, codes}
 use Rattle.std.specs.List.{list_all}
 use Rattle.dl_types.specs.declared.event.Event.{Event}
 use Rattle.dl_types.specs.declared.event.Event.TheVariants as event
@@ -11,7 +11,6 @@ use Rattle.dl_types.specs.declared.refusal.Refusal.{Refusal}
 use Rattle.dl_types.specs.declared.size.Kind.{Kind}
 use Rattle.dl_types.specs.declared.size.Kind.TheVariants.{Halt}
 use Rattle.dl_types.specs.declared.size.OpenArgs.{OpenArgs}
-use Rattle.dl_types.specs.declared.size.Size.{Size}
 use Rattle.dl_types.specs.Name.{IsNameText, name_of}
 use Rattle.dl_types.specs.FileText.{IsFileName, file_text}
 use Rattle.dl_app.specs.declared.command.Command.{Command}
@@ -20,21 +19,17 @@ use Rattle.dl_app.specs.declared.command.Call.{Call}
 use Rattle.dl_app.specs.declared.command.Call.TheVariants as call
 use Rattle.dl_app.specs.declared.command.Start.{Start}
 use Rattle.dl_app.specs.declared.command.Start.TheVariants as start
-use Rattle.dl_app.specs.Words.{words_left, number_in, client_of, WritesSize}
+use Rattle.dl_app.specs.Words.{words_left, number_in, client_of}
+use Rattle.dl_app.specs.Options.{MakeArgs}
 use Rattle.dl_app.specs.Items.{is_item, item_bytes, refusal_of}
 
 -- the word of a kind of log
 abbrev pub kind_word : Kind → List ℕ
 kind_word Halt = codes "halt"
 
--- the option of a size, or nothing
-abbrev pub GivesSize : List (List ℕ) → Option Size → Type 0
-GivesSize words None = words ≡ []
-GivesSize words (Some size) = (word : List ℕ) × WritesSize word (Some size) × (words ≡ (codes "size=" ++ word) ∷ [])
-
--- how a log is to be opened: its kind, and then its size
+-- how a log is to be opened: its kind, and then its options
 abbrev pub GivesArgs : List (List ℕ) → OpenArgs → Type 0
-GivesArgs words args = (options : List (List ℕ)) × GivesSize options args.size × (words ≡ kind_word args.kind ∷ options)
+GivesArgs words args = (options : List (List ℕ)) × MakeArgs options args.kind args × (words ≡ kind_word args.kind ∷ options)
 
 -- the word for where a chunk is to begin
 abbrev pub start_word : Start → List ℕ
@@ -69,6 +64,7 @@ IsCallForm words client log c =
 abbrev pub IsForm : List (List ℕ) → Command → Type 0
 IsForm words (command.Call client log c) = IsCallForm words client log c
 IsForm words (command.File file) = IsFileName file × (words ≡ codes "file" ∷ file_text file ∷ [])
+IsForm words command.Flush = words ≡ codes "flush" ∷ []
 
 -- where a chunk begins
 abbrev pub place_from : Start → Place → Place

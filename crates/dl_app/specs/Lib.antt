@@ -1,4 +1,6 @@
 pub mod Words
+pub mod Options
+pub mod Settings
 pub mod Items
 pub mod Answers
 pub mod Places

@@ -27,8 +27,10 @@ place_of places client log = start_or (get same_reader places.given (record { cl
 -- where clients go on after a reply to one of them
 abbrev pub places_after : {Z : Type 0} → Reply Z → ClientId → Name → (ClientId → Name → Place) → ClientId → Name → Place
 places_after reply.Opened client log places = places
+places_after (reply.Repaired recovered bad) client log places = places
 places_after reply.Done client log places = places
 places_after (reply.Items next items bad) client log places = λ c l. if same_client client c && same_name log l then At next else places c l
 places_after reply.Eof client log places = places
+places_after (reply.Turn turn) client log places = places
 places_after (reply.Refused refusal) client log places = places
 places_after reply.OutOfMemory client log places = places

@@ -4,6 +4,7 @@ use Rattle.std.specs.List.{flat_map}
 use Rattle.std.specs.FinMap as map
 use Rattle.std.specs.Io.KnownBytes.{Appends}
 use Rattle.dl_types.specs.declared.event.Event.{Event}
+use Rattle.dl_types.specs.declared.event.Event.TheVariants as event
 use Rattle.dl_types.specs.declared.file.FileName.{FileName}
 use Rattle.dl_types.specs.declared.name.Base.{Base}
 use Rattle.dl_types.specs.declared.name.ClientId.{ClientId}
@@ -19,9 +20,10 @@ use Rattle.dl_disk.specs.Disk.{Rises}
 use Rattle.dl_hub.specs.declared.fault.FileFault.{FileFault}
 use Rattle.dl_hub.specs.declared.fault.FileFault.TheVariants as fault
 use Rattle.dl_hub.specs.View.{HubView}
+use Rattle.dl_hub.specs.Call.{IsTurn}
 use Rattle.dl_hub.specs.Run.{IsRun}
 use Rattle.dl_app.specs.declared.command.Command.{Command}
-use Rattle.dl_app.specs.declared.command.Command.TheVariants.{Call, File}
+use Rattle.dl_app.specs.declared.command.Command.TheVariants.{Call, File, Flush}
 use Rattle.dl_app.specs.declared.lines.TheConstants.{LINE_LIMIT, LINES_LIMIT}
 use Rattle.dl_app.specs.Answers.{hex, IsLineOf, IsRefusalText, IsReplyText}
 use Rattle.dl_app.specs.Command.{IsForm, event_in, refusal_in}
@@ -46,9 +48,10 @@ IsShown file (Err fault.Device) text = IsRefusalText (DeviceFault file) text
 IsShown file (Err fault.OutOfMemory) text = ⊥
 
 module _ {D : Type 0} (content : D → Content) (honest : D → Bool) (faults : D → Base → ℕ) (known : D → Base → Bool) where
-  -- a file was read: the logs and the files stay, and what was read is what the file has
+  -- a file was read: the logs, what waits and the files stay, and what was read is what the file has
   pub record HasRead (file : FileName) (old new : HubView D) (shown : Result (Option (List ℕ)) FileFault) : Type 0 where
     pub logs : new.logs ≡ old.logs
+    pub cache : new.cache ≡ old.cache
     pub files : IsTrue (honest new.disk) → content new.disk ≡ content old.disk
     pub acts : ActsOn content honest faults known file.base old.disk new.disk
     pub text : IsTrue (honest new.disk) → IfOk shown (λ text. text ≡ map.get (content old.disk) file)
@@ -59,22 +62,26 @@ module _ {D : Type 0} (content : D → Content) (honest : D → Bool) (faults : 
   ShowsFile file old new answer = (shown : Result (Option (List ℕ)) FileFault) × HasRead file old new shown × IsLineOf (IsShown file shown) answer
 
 module _ {D : Type 0} (content : D → Content) (honest : D → Bool) (faults : D → Base → ℕ) (known : D → Base → Bool) (Z : Type 0) where
-  -- an event of a client on a log is run by itself, and its reply is the answer
-  pub record IsAnswered (client : ClientId) (log : Name) (event : Event Z) (old new : Stage D) (answer : List ℕ) : Type 0 where
-    pub outcome : Outcome Z
-    pub run : IsRun content honest faults old.hub new.hub (event ∷ []) (outcome ∷ [])
-    pub places : new.places ≡ places_after outcome.reply client log old.places
+  -- an event is run by itself, and its reply is the answer
+  pub record IsAnswered (event : Event Z) (outcome : Outcome Z) (old new : HubView D) (answer : List ℕ) : Type 0 where
+    pub run : IsRun content honest faults old new (event ∷ []) (outcome ∷ [])
     pub line : IsLineOf (IsReplyText outcome.reply) answer
 
   -- a call that is refused before it is an event changes nothing
   abbrev pub IsCalled : Option Refusal → ClientId → Name → Event Z → Stage D → Stage D → List ℕ → Type 0
   IsCalled (Some refusal) client log event old new answer = (new ≡ old) × IsLineOf (IsRefusalText refusal) answer
-  IsCalled None client log event old new answer = IsAnswered client log event old new answer
+  IsCalled None client log event old new answer = (outcome : Outcome Z) × IsAnswered event outcome old.hub new.hub answer × (new.places ≡ places_after outcome.reply client log old.places)
+
+  -- a turn of the cache was taken, and moves no client's place
+  abbrev pub IsFlushed : Stage D → Stage D → List ℕ → Type 0
+  IsFlushed old new answer =
+      (outcome : Outcome Z) × IsAnswered event.Flush outcome old.hub new.hub answer × IsTurn faults old.hub new.hub outcome.reply × (new.places ≡ old.places)
 
   -- what a command does
   abbrev pub IsDone : Command → Stage D → Stage D → List ℕ → Type 0
   IsDone (Call client log c) old new answer = IsCalled (refusal_in c) client log (event_in client log c (old.places client log)) old new answer
   IsDone (File file) old new answer = (new.places ≡ old.places) × ShowsFile content honest faults known file old.hub new.hub answer
+  IsDone Flush old new answer = IsFlushed old new answer
 
   -- what a line does: nothing, or what its command does
   abbrev pub IsLine : List ℕ → Stage D → Stage D → List ℕ → Type 0

@@ -1,8 +1,7 @@
 // The forms of a line.
-ghost use Rattle.std.specs.Prelude.{◌≡◌, ◌≢◌, ℕ, [], ◌∷◌, Option, IfSome, IfNone, IfOk, IfErr, Err, Some, codes};
+ghost use Rattle.std.specs.Prelude.{◌≡◌, ◌≢◌, ℕ, ◌∷◌, IfSome, IfNone, IfOk, IfErr, Err, codes};
 ghost use Rattle.std.specs.List.{list_all};
 ghost use Rattle.dl_types.specs.declared.size.OpenArgs.{OpenArgs};
-ghost use Rattle.dl_types.specs.declared.size.Size.{Size};
 ghost use Rattle.dl_app.specs.declared.command.Call.{Call};
 ghost use Rattle.dl_app.specs.declared.command.Command.{Command};
 ghost use Rattle.dl_app.specs.declared.command.Start.{Start};
@@ -10,12 +9,13 @@ ghost use Rattle.dl_app.specs.Lines.{is_passed_over};
 ghost use Rattle.dl_app.specs.Places.{place_of};
 ghost use Rattle.dl_app.specs.Items.{is_item};
 ghost use Rattle.dl_app.specs.Words.{words_of, words_left};
-ghost use Rattle.dl_app.specs.Command.{IsForm, GivesCall, GivesArgs, GivesSize, GivesChunk, call_word, start_word, event_in, refusal_in};
+ghost use Rattle.dl_app.specs.Command.{IsForm, GivesCall, GivesArgs, GivesChunk, call_word, start_word, event_in, refusal_in};
 
 use crate::items::{is_item, items_of};
+use crate::options::args_in;
 use crate::places::Places;
-use crate::words::{Words, client, number, size};
-use dl_types::{ClientId, Event, Fail, FileName, Kind, Name, OpenArgs, Place, Size};
+use crate::words::{Words, client, number};
+use dl_types::{ClientId, Event, Fail, FileName, Kind, Name, OpenArgs, Place};
 use std::alloc::Allocator;
 
 /// What a line asks for.
@@ -29,6 +29,8 @@ pub enum Command<'a> {
     },
     /// The bytes of a file are shown.
     File(FileName),
+    /// The oldest block of the bytes that wait is written.
+    Flush,
 }
 
 /// A call on a log.
@@ -66,6 +68,8 @@ pub fn command_of(line: &[u8]) -> Option<Command<'_>>
     let first = words.next()?;
     if first == b"file".as_slice() {
         file_of(words)
+    } else if first == b"flush".as_slice() {
+        words.is_empty().then_some(Command::Flush)
     } else {
         call_of(first, words)
     }
@@ -82,7 +86,8 @@ fn file_of(mut words: Words<'_>) -> Option<Command<'_>>
 
 // The call of the client that the first word writes.
 fn call_of<'a>(first: &[u8], mut words: Words<'a>) -> Option<Command<'a>>
-    requires { first.now ≢ codes "file" }
+    requires file { first.now ≢ codes "file" }
+    requires flush { first.now ≢ codes "flush" }
     ensures form { IfSome result (λ command. IsForm (first.now ∷ words_left words.entry) command) }
     ensures none { IfNone result ((command : Command) → IsForm (first.now ∷ words_left words.entry) command → ⊥) }
 {
@@ -111,7 +116,7 @@ fn verb_of<'a>(verb: &[u8], words: Words<'a>) -> Option<Call<'a>>
     }
 }
 
-// The kind, and the size where it is given.
+// The kind, and then the options.
 fn open_args(mut words: Words<'_>) -> Option<OpenArgs>
     ensures form { IfSome result (λ args. GivesArgs (words_left words.entry) args) }
     ensures none { IfNone result ((args : OpenArgs) → GivesArgs (words_left words.entry) args → ⊥) }
@@ -119,29 +124,7 @@ fn open_args(mut words: Words<'_>) -> Option<OpenArgs>
     if words.next()? != b"halt".as_slice() {
         return None;
     }
-    let kind = Kind::Halt;
-    let size = size_in(words)?;
-    Some(OpenArgs { kind, size })
-}
-
-// The size, which may be left out.
-fn size_in(mut words: Words<'_>) -> Option<Option<Size>>
-    ensures form { IfSome result (λ size. GivesSize (words_left words.entry) size) }
-    ensures none { IfNone result ((size : Option Size) → GivesSize (words_left words.entry) size → ⊥) }
-{
-    let Some(option) = words.next() else {
-        return Some(None);
-    };
-    let size = size_option(option)?;
-    words.is_empty().then_some(Some(size))
-}
-
-// The size that an option gives.
-fn size_option(option: &[u8]) -> Option<Size>
-    ensures form { IfSome result (λ size. GivesSize (option.now ∷ []) (Some size)) }
-    ensures none { IfNone result ((size : Size) → GivesSize (option.now ∷ []) (Some size) → ⊥) }
-{
-    size(option.strip_prefix(b"size=")?)
+    args_in(Kind::Halt, words)
 }
 
 // Whether each word writes an item.

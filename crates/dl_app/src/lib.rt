@@ -6,6 +6,7 @@ mod command;
 mod fault;
 mod items;
 mod lines;
+mod options;
 mod places;
 mod script;
 mod words;

@@ -1,12 +1,12 @@
 // A script from its first line to its last.
-ghost use Rattle.std.specs.Prelude.{◌≡◌, ◌≢◌, ◌+◌, ◌≤◌, ◌++◌, ◌∷◌, [], ℕ, List, Err, IfErr, OnOk, length};
+ghost use Rattle.std.specs.Prelude.{◌≡◌, ◌≢◌, ◌+◌, ◌≤◌, ◌++◌, ◌∷◌, [], ℕ, List, None, Err, IfErr, OnOk, length};
 ghost use Rattle.std.specs.List.{flat_map};
 ghost use Rattle.std.specs.Io.KnownBytes.{Appends};
 ghost use Rattle.dl_app.specs.Answers.{hex};
 ghost use Rattle.dl_app.specs.Command.{event_in, refusal_in};
 ghost use Rattle.dl_app.specs.Lines.{HasLines};
 ghost use Rattle.dl_app.specs.Places.{place_of};
-ghost use Rattle.dl_app.specs.Script.{HasNoForm, IsAnswered, IsBadLine, IsCalled, IsLine, Runs, RunsOn, ShowsFile};
+ghost use Rattle.dl_app.specs.Script.{HasNoForm, IsBadLine, IsCalled, IsFlushed, IsLine, Runs, RunsOn, ShowsFile};
 ghost use Rattle.dl_app.specs.Session.{stage_of, IsAnswerFault};
 
 use crate::answer::{push_hex, put_outcome, put_refusal};
@@ -112,6 +112,7 @@ impl<A: Allocator + Copy> Session<A> {
         match command_of(line).ok_or(ScriptFault::BadLine(number))? {
             Command::File(file) => show_file(file, &mut self.text, output, hub),
             Command::Call { client, log, call } => self.call(client, log, call, output, hub),
+            Command::Flush => self.flush(output, hub),
         }
     }
 
@@ -148,7 +149,7 @@ impl<A: Allocator + Copy> Session<A> {
         output: &mut W,
         hub: &mut Hub<D, A>,
     ) -> Result<(), ScriptFault>
-        ensures done { OnOk result ((answer : List ℕ) × IsAnswered D.content D.honest D.faults D.known A client log event (stage_of hub.old self.old) (stage_of hub.new self.new) answer
+        ensures done { OnOk result ((answer : List ℕ) × IsCalled D.content D.honest D.faults D.known A None client log event (stage_of hub.old self.old) (stage_of hub.new self.new) answer
             × Appends (W.contents output.old) (W.contents output.new) answer) }
         ensures fault { IfErr result IsAnswerFault }
     {
@@ -159,6 +160,21 @@ impl<A: Allocator + Copy> Session<A> {
         let outcome = &self.outcomes[0];
         self.places.keep_after(client, log, &outcome.reply)?;
         put_outcome(&mut self.text, outcome)?;
+        write_answer(self.text.as_slice(), output)
+    }
+
+    // Writes the oldest block of the bytes that wait.
+    fn flush<W: Write, D: Disk + Drop>(
+        &mut self,
+        output: &mut W,
+        hub: &mut Hub<D, A>,
+    ) -> Result<(), ScriptFault>
+        ensures done { OnOk result ((answer : List ℕ) × IsFlushed D.content D.honest D.faults D.known A (stage_of hub.old self.old) (stage_of hub.new self.new) answer
+            × Appends (W.contents output.old) (W.contents output.new) answer) }
+        ensures fault { IfErr result IsAnswerFault }
+    {
+        let outcome = hub.step(Event::Flush);
+        put_outcome(&mut self.text, &outcome)?;
         write_answer(self.text.as_slice(), output)
     }
 }

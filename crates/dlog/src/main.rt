@@ -55,14 +55,14 @@ fn command<'a>(alloc: Global) -> Result<Command<'a>, AllocError> {
         .long("folder")
         .value_name("DIR")
         .help(
-            "Keep the files in the folder DIR, which has to be there. Without it they are in memory",
+            "Keep the files in the folder DIR, which has to be there, and open those that it has. Without it they are in memory",
         );
     let blocks = Arg::new(alloc, "blocks")
         .long("blocks")
         .value_name("N")
         .value_parser(value_parser!(u32).range(1..=65_536))
         .default_value("16")
-        .help("Give the cache N blocks, from 1 to 65536");
+        .help("Let items wait in N blocks of 4096 bytes before they are written, from 1 to 65536");
     let run = Command::new(alloc, "run")
         .about("Run a script from standard input and print its answers")
         .arg(folder)?

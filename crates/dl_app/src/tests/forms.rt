@@ -48,15 +48,54 @@ fn other_lines_are_bad(rt: HostRuntime) {
         "1 open a halt size",
         "1 open a halt size=",
         "1 open a halt size=-1",
+        "1 open a halt size=50x3",
         "1 open a halt size=16 size=16",
-        "1 open a halt mode=ro",
+        "1 open a halt size=16 mode=rw size=17",
+        "1 open a halt mode",
+        "1 open a halt mode=",
+        "1 open a halt mode=RW",
+        "1 open a halt mode=rww",
+        "1 open a halt mode=rw mode=rw",
+        "1 open a halt mode=ro mode=rw",
+        "1 open a halt repair=",
+        "1 open a halt repair=maybe",
+        "1 open a halt repair=yes repair=no",
+        "1 open a halt mode=ro repair=no mode=rw",
+        "1 open a halt ",
+        "1 open a halt rw",
+        "1 open a mode=rw halt",
+        "1 open a halt head=a",
         "1 chunk a start",
         "1 chunk a 5 5",
         "1 chunk a next x",
         "1 chunk a next 1 1",
+        "flush now",
+        "flush ",
+        "1 flush",
+        "1 flush a",
+        "FLUSH",
     ];
     for line in lines {
         answers(&rt, line.as_bytes(), b"", Err(ScriptFault::BadLine(1)));
+    }
+}
+
+#[test]
+fn options_come_in_any_order(rt: HostRuntime) {
+    for options in [
+        "mode=rw repair=yes size=50",
+        "mode=rw size=50 repair=yes",
+        "repair=yes mode=rw size=50",
+        "repair=yes size=50 mode=rw",
+        "size=50 mode=rw repair=yes",
+        "size=50 repair=yes mode=rw",
+        "size=50",
+    ] {
+        let script = format!(in rt.alloc();
+            "1 open a halt {options}\n1 open a halt size=51\n1 open a halt\n"
+        ).expect(&rt, "memory");
+        let text = b"opened\nE5 size_mismatch 50 51\nopened\n";
+        answers(&rt, script.as_bytes(), text, Ok(()));
     }
 }
 

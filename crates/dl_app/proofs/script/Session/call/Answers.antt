@@ -1,13 +1,28 @@
-use Rattle.std.proofs.Common.{◌≡◌, Option, Some, refl, sym, subst}
+use Rattle.std.proofs.Common.{◌≡◌, ℕ, List, Option, Some, None, OnOk, refl, sym, subst}
 use Rattle.std.specs.Io.KnownBytes.{Appends}
+use Rattle.dl_types.specs.declared.event.Event.{Event}
 use Rattle.dl_types.specs.declared.refusal.Refusal.{Refusal}
 use Rattle.dl_app.specs.Answers.{IsLineOf, IsRefusalText}
 use Rattle.dl_app.specs.Command.{event_in, refusal_in}
 use Rattle.dl_app.specs.Places.{place_of}
 use Rattle.dl_app.specs.Script.{IsCalled}
 use Rattle.dl_app.specs.Session.{stage_of}
-use Rattle.dl_app.proofs.Scripts.{answered, refused_is}
+use Rattle.dl_app.proofs.Scripts.{answered, called_is, refused_is}
 use Rattle.dl_app.proofs.script.Session.call.Goals as goal
+
+pub returns-in-Ok-clause-done : goal.returns-in-Ok-clause-done
+returns-in-Ok-clause-done g c =
+    let D = g.D.Disk in
+    let Z = g.row.A.Denot in
+    let old = stage_of c.args.hub.now c.args.self.now in
+    let new = stage_of c.run_event.new.hub c.run_event.new.self in
+    let written = λ (answer : List ℕ). Appends (g.W.Write.contents c.args.output.now) (g.W.Write.contents c.run_event.new.output) answer in
+    let event = event_in {Z = Z} c.args.client c.args.log c.args.call (place_of c.args.self.now.places c.args.client c.args.log) in
+    let is : refusal_in c.args.call ≡ None = called_is (refusal_in c.args.call) c.in-Ok.event c.in-Ok.ensures.refused in
+    let same : c.in-Ok.event ≡ event = c.in-Ok.ensures.event in
+    subst (λ (o : Option Refusal). OnOk c.run_event.result ((answer : List ℕ) × IsCalled D.content D.honest D.faults D.known Z o c.args.client c.args.log event old new answer × written answer)) (sym is)
+    (subst (λ (e : Event Z). OnOk c.run_event.result ((answer : List ℕ) × IsCalled D.content D.honest D.faults D.known Z None c.args.client c.args.log e old new answer × written answer)) same
+    c.run_event.ensures.done)
 
 pub returns-in_ok-put_refusal-in-Err-Refused-clause-done :
     goal.returns-in_ok-put_refusal-in-Err-Refused-clause-done

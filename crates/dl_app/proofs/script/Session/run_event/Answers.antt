@@ -1,9 +1,9 @@
-use Rattle.std.proofs.Common.{◌≡◌, ◌∷◌, [], ◌++◌, List, vec_len, length, sym, ap, ◌∙◌, subst, arith}
+use Rattle.std.proofs.Common.{◌≡◌, ◌∷◌, [], ◌++◌, List, None, vec_len, length, sym, ap, ◌∙◌, subst, arith}
 use Rattle.std.specs.Io.KnownBytes.{Appends}
 use Rattle.dl_types.specs.declared.event.Event.{Event}
 use Rattle.dl_app.specs.Answers.{IsLineOf, IsReplyText}
 use Rattle.dl_app.specs.Places.{place_of}
-use Rattle.dl_app.specs.Script.{IsAnswered, Stage}
+use Rattle.dl_app.specs.Script.{IsCalled, Stage}
 use Rattle.dl_app.specs.Session.{stage_of}
 use Rattle.dl_app.proofs.Scripts.{answered, run_one}
 use Rattle.dl_app.proofs.script.Session.run_event.Goals as goal
@@ -21,7 +21,6 @@ returns-clause-done g c =
     let line = subst (IsLineOf (IsReplyText outcome.reply)) (sym c.as_slice-2.ensures.value) c.in_ok-put_outcome.ensures.line in
     let old = stage_of c.args.hub.now c.args.self.now in
     let new : Stage g.row.D.Denot = record { hub = c.run.new.self; places = place_of c.keep_after.new.self } in
-    let done : IsAnswered D.content D.honest D.faults D.known g.row.A.Denot c.args.client c.args.log c.args.event old new c.as_slice-2.result.now =
-    record { outcome = outcome; run = run; places = c.in_ok-keep_after.ensures; line = line } in
-    answered c.write_answer.result (IsAnswered D.content D.honest D.faults D.known g.row.A.Denot c.args.client c.args.log c.args.event old new)
-    (Appends (g.W.Write.contents c.args.output.now) (g.W.Write.contents c.write_answer.new.output)) c.as_slice-2.result.now done c.write_answer.ensures.written
+    answered c.write_answer.result (IsCalled D.content D.honest D.faults D.known g.row.A.Denot None c.args.client c.args.log c.args.event old new)
+    (Appends (g.W.Write.contents c.args.output.now) (g.W.Write.contents c.write_answer.new.output)) c.as_slice-2.result.now
+    (outcome, record { run = run; line = line }, c.in_ok-keep_after.ensures) c.write_answer.ensures.written

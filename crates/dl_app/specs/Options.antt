@@ -1,0 +1,63 @@
+-- The options of an open, and the arguments that they make.
+use Rattle.std.specs.Prelude.{◌≡◌, ℕ, List, [], ◌∷◌, ◌++◌, Bool, true, false, Some, codes, ⊤}
+use Rattle.std.specs.List.{fold, list_any}
+use Rattle.dl_types.specs.declared.size.Kind.{Kind}
+use Rattle.dl_types.specs.declared.size.Mode.{Mode}
+use Rattle.dl_types.specs.declared.size.Mode.TheVariants.{ReadWrite, ReadOnly}
+use Rattle.dl_types.specs.declared.size.OpenArgs.{OpenArgs}
+use Rattle.dl_types.specs.declared.size.Repair.{Repair}
+use Rattle.dl_types.specs.declared.size.Repair.TheVariants.{Yes, No, Truncate}
+use Rattle.dl_types.specs.Mode.{plain_args}
+use Rattle.dl_app.specs.declared.options.Setting.{Setting}
+use Rattle.dl_app.specs.declared.options.Setting.TheVariants as setting
+use Rattle.dl_app.specs.Words.{WritesSize}
+
+-- the word of a mode
+abbrev pub mode_word : Mode → List ℕ
+mode_word ReadWrite = codes "rw"
+mode_word ReadOnly = codes "ro"
+
+-- the word of a repair
+abbrev pub repair_word : Repair → List ℕ
+repair_word Yes = codes "yes"
+repair_word No = codes "no"
+repair_word Truncate = codes "truncate"
+
+-- an option writes this setting
+abbrev pub WritesSetting : List ℕ → Setting → Type 0
+WritesSetting option (setting.Size size) = (word : List ℕ) × WritesSize word (Some size) × (option ≡ codes "size=" ++ word)
+WritesSetting option (setting.Mode mode) = option ≡ codes "mode=" ++ mode_word mode
+WritesSetting option (setting.Repair repair) = option ≡ codes "repair=" ++ repair_word repair
+
+-- options write these settings, each option one
+abbrev pub WriteSettings : List (List ℕ) → List Setting → Type 0
+WriteSettings [] [] = ⊤
+WriteSettings [] (s ∷ settings) = ⊥
+WriteSettings (option ∷ options) [] = ⊥
+WriteSettings (option ∷ options) (s ∷ settings) = WritesSetting option s × WriteSettings options settings
+
+-- two settings of one sort
+abbrev pub is_same_sort : Setting → Setting → Bool
+is_same_sort (setting.Size size) (setting.Size other) = true
+is_same_sort (setting.Mode mode) (setting.Mode other) = true
+is_same_sort (setting.Repair repair) (setting.Repair other) = true
+is_same_sort s t = false
+
+-- no two settings are of one sort
+abbrev pub AreOfOwnSorts : List Setting → Type 0
+AreOfOwnSorts [] = ⊤
+AreOfOwnSorts (s ∷ settings) = (list_any (is_same_sort s) settings ≡ false) × AreOfOwnSorts settings
+
+-- options of an open: each writes a setting, and no two are of one sort
+abbrev pub GiveSettings : List (List ℕ) → List Setting → Type 0
+GiveSettings options settings = WriteSettings options settings × AreOfOwnSorts settings
+
+-- arguments with a setting
+abbrev pub with_setting : OpenArgs → Setting → OpenArgs
+with_setting args (setting.Size size) = record args { size = Some size }
+with_setting args (setting.Mode mode) = record args { mode = mode }
+with_setting args (setting.Repair repair) = record args { repair = repair }
+
+-- the arguments of an open of a log of this kind with these options
+abbrev pub MakeArgs : List (List ℕ) → Kind → OpenArgs → Type 0
+MakeArgs options kind args = (settings : List Setting) × GiveSettings options settings × (args ≡ fold with_setting (plain_args kind) settings)

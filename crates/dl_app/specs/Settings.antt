@@ -1,0 +1,26 @@
+-- What options have set so far.
+use Rattle.std.specs.Prelude.{Bool, Some, None, is_some, unwrap_or}
+use Rattle.dl_types.specs.declared.size.OpenArgs.{OpenArgs}
+use Rattle.dl_app.specs.declared.options.Setting.{Setting}
+use Rattle.dl_app.specs.declared.options.Setting.TheVariants as setting
+use Rattle.dl_app.specs.declared.options.Settings.{Settings}
+
+-- nothing is set
+abbrev pub no_settings : Settings
+no_settings = record { size = None; mode = None; repair = None }
+
+-- a setting of this sort is among them
+abbrev pub is_set : Settings → Setting → Bool
+is_set all (setting.Size size) = is_some all.size
+is_set all (setting.Mode mode) = is_some all.mode
+is_set all (setting.Repair repair) = is_some all.repair
+
+-- settings and one more
+abbrev pub also_set : Settings → Setting → Settings
+also_set all (setting.Size size) = record all { size = Some size }
+also_set all (setting.Mode mode) = record all { mode = Some mode }
+also_set all (setting.Repair repair) = record all { repair = Some repair }
+
+-- arguments of no size, with these settings
+abbrev pub args_of : Settings → OpenArgs → OpenArgs
+args_of all args = record { kind = args.kind; size = all.size; mode = unwrap_or all.mode args.mode; repair = unwrap_or all.repair args.repair }

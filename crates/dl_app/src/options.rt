@@ -1,0 +1,141 @@
+// The options of an open.
+ghost use Rattle.std.specs.Prelude.{◌≡◌, List, None, Some, IfSome, IfNone, if◌then◌else◌};
+ghost use Rattle.std.specs.List.{fold};
+ghost use Rattle.dl_types.specs.declared.size.Mode.{Mode};
+ghost use Rattle.dl_types.specs.declared.size.Repair.{Repair};
+ghost use Rattle.dl_types.specs.declared.size.OpenArgs.{OpenArgs};
+ghost use Rattle.dl_types.specs.Mode.{plain_args};
+ghost use Rattle.dl_app.specs.declared.options.Setting.{Setting};
+ghost use Rattle.dl_app.specs.Words.{words_left};
+ghost use Rattle.dl_app.specs.Options.{mode_word, repair_word, WritesSetting, GiveSettings, MakeArgs};
+ghost use Rattle.dl_app.specs.Settings.{no_settings, is_set, also_set, args_of};
+
+use crate::words::{Words, size};
+use dl_types::{Kind, Mode, OpenArgs, Repair, Size};
+
+/// What an option of an open sets.
+#[derive(Clone, Copy)]
+pub enum Setting {
+    Size(Size),
+    Mode(Mode),
+    Repair(Repair),
+}
+
+// What the options have set.
+#[derive(Clone, Copy)]
+struct Settings {
+    size: Option<Size>,
+    mode: Option<Mode>,
+    repair: Option<Repair>,
+}
+
+impl Settings {
+    // Nothing is set.
+    fn none() -> Settings
+        ensures { result ≡ no_settings }
+    {
+        Settings {
+            size: None,
+            mode: None,
+            repair: None,
+        }
+    }
+
+    // These settings and one more. None where one of its sort is among them.
+    fn with(self, setting: Setting) -> Option<Settings>
+        ensures { result ≡ (if is_set self setting then None else Some (also_set self setting)) }
+    {
+        match setting {
+            Setting::Size(size) if self.size.is_none() => Some(Settings {
+                size: Some(size),
+                ..self
+            }),
+            Setting::Mode(mode) if self.mode.is_none() => Some(Settings {
+                mode: Some(mode),
+                ..self
+            }),
+            Setting::Repair(repair) if self.repair.is_none() => Some(Settings {
+                repair: Some(repair),
+                ..self
+            }),
+            _ => None,
+        }
+    }
+
+    // The arguments of an open of a log of this kind.
+    fn args(self, kind: Kind) -> OpenArgs
+        ensures { result ≡ args_of self (plain_args kind) }
+    {
+        let plain = OpenArgs::of(kind);
+        OpenArgs {
+            kind,
+            size: self.size,
+            mode: self.mode.unwrap_or(plain.mode),
+            repair: self.repair.unwrap_or(plain.repair),
+        }
+    }
+}
+
+/// Reads the options of an open of a log of this kind.
+pub fn args_in(kind: Kind, options: Words<'_>) -> Option<OpenArgs>
+    ensures form { IfSome result (λ args. MakeArgs (words_left options.entry) kind args) }
+    ensures none { IfNone result ((args : OpenArgs) → MakeArgs (words_left options.entry) kind args → ⊥) }
+{
+    Some(settings_in(options)?.args(kind))
+}
+
+// The settings of options. None where a word is none, or where two are of one sort.
+fn settings_in(options: Words<'_>) -> Option<Settings>
+    ensures form { IfSome result (λ all. (settings : List Setting) × GiveSettings (words_left options.entry) settings × (all ≡ fold also_set no_settings settings)) }
+    ensures none { IfNone result ((settings : List Setting) → GiveSettings (words_left options.entry) settings → ⊥) }
+{
+    let mut settings = Settings::none();
+    for option in options {
+        settings = settings.with(setting_in(option)?)?;
+    }
+    Some(settings)
+}
+
+// The setting that an option writes.
+fn setting_in(option: &[u8]) -> Option<Setting>
+    ensures form { IfSome result (λ setting. WritesSetting option.now setting) }
+    ensures none { IfNone result ((setting : Setting) → WritesSetting option.now setting → ⊥) }
+{
+    if let Some(word) = option.strip_prefix(b"size=") {
+        Some(Setting::Size(size(word)?))
+    } else if let Some(word) = option.strip_prefix(b"mode=") {
+        Some(Setting::Mode(mode_in(word)?))
+    } else {
+        Some(Setting::Repair(repair_in(option.strip_prefix(b"repair=")?)?))
+    }
+}
+
+// The mode that a word asks for.
+fn mode_in(word: &[u8]) -> Option<Mode>
+    ensures form { IfSome result (λ mode. word.now ≡ mode_word mode) }
+    ensures none { IfNone result ((mode : Mode) → word.now ≡ mode_word mode → ⊥) }
+{
+    if word == b"rw".as_slice() {
+        Some(Mode::ReadWrite)
+    } else if word == b"ro".as_slice() {
+        Some(Mode::ReadOnly)
+    } else {
+        None
+    }
+}
+
+// The repair that a word asks for.
+fn repair_in(word: &[u8]) -> Option<Repair>
+    ensures form { IfSome result (λ repair. word.now ≡ repair_word repair) }
+    ensures none { IfNone result ((repair : Repair) → word.now ≡ repair_word repair → ⊥) }
+{
+    if word == b"yes".as_slice() {
+        Some(Repair::Yes)
+    } else if word == b"no".as_slice() {
+        Some(Repair::No)
+    } else if word == b"truncate".as_slice() {
+        Some(Repair::Truncate)
+    } else {
+        None
+    }
+}
