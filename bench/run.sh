@@ -1,0 +1,97 @@
+#!/bin/sh
+# Builds dlog_bench and the baseline, runs both in turn in a folder, three rounds, and prints medians and ratios.
+#   bench/run.sh DIR N
+set -eu
+
+rounds=3
+
+die() {
+    echo "bench: $1" >&2
+    exit "$2"
+}
+
+[ $# -eq 2 ] || die "give DIR, a folder that is there and empty, and N, a number of items" 2
+dir=$1
+items=$2
+case $items in
+    '' | 0* | *[!0-9]*) die "N is a number from 1 on: $items" 2 ;;
+esac
+[ -d "$dir" ] || die "no folder: $dir" 1
+[ -w "$dir" ] || die "nothing may be written in $dir" 1
+for tool in rt rustc awk; do
+    command -v "$tool" >/dev/null 2>&1 || die "$tool is not on the PATH" 1
+done
+
+bench=$(CDPATH='' cd -- "$(dirname -- "$0")" && pwd)
+crate=$bench/../crates/dlog_bench
+program=$crate/out/dlog_bench
+work=$(mktemp -d)
+
+# What the programs remove themselves, unless they were stopped.
+clear_files() {
+    rm -f -- "$dir"/bench_one.log "$dir"/bench_many.log "$dir"/bench_turn_*.log "$dir"/bench_baseline.log
+}
+
+trap 'clear_files; rm -rf -- "$work"' EXIT
+trap 'exit 1' HUP INT TERM
+
+echo "bench: building, which takes some minutes the first time" >&2
+(cd "$crate" && RT_BACKEND=llvm rt run -- --version) </dev/null >"$work/log" 2>&1 || {
+    cat "$work/log" >&2
+    die "dlog_bench could not be built" 1
+}
+rustc -O -o "$work/baseline" "$bench/baseline.rs" || die "the baseline could not be built" 1
+
+# Runs dlog_bench once. A measure that it could not take is told in its line, and the others count.
+run_dlog() {
+    status=0
+    "$program" "$dir" "$items" >>"$work/lines" 2>"$work/faults" || status=$?
+    [ "$status" -eq 0 ] && return
+    [ "$status" -eq 1 ] && [ ! -s "$work/faults" ] && return
+    cat "$work/faults" >&2
+    die "dlog_bench ended with status $status" 1
+}
+
+for round in $(seq "$rounds"); do
+    echo "bench: round $round of $rounds" >&2
+    clear_files
+    run_dlog
+    clear_files
+    "$work/baseline" "$dir" "$items" >>"$work/lines" || die "the baseline failed" 1
+done
+
+awk '
+    function median(name,   n, i, j, v) {
+        n = split(values[name], v, " ")
+        for (i = 2; i <= n; i++)
+            for (j = i; j > 1 && v[j - 1] + 0 > v[j] + 0; j--) { t = v[j]; v[j] = v[j - 1]; v[j - 1] = t }
+        return v[int((n + 1) / 2)]
+    }
+    # How many times as long one takes as the other. Rates are turned round, times are not.
+    function ratio(text, slow, fast,   s, f) {
+        if (!(slow in values) || !(fast in values)) { printf "%-52s not measured\n", text; return }
+        s = median(slow); f = median(fast)
+        if (unit[slow] != "ms") { t = s; s = f; f = t }
+        if (f + 0 == 0) printf "%-52s no figure\n", text
+        else printf "%-52s %.2f\n", text, s / f
+    }
+    { name = $1; sub(/:$/, "", name); if (!(name in seen)) { seen[name] = 1; names[++count] = name } }
+    $2 == "failed" { $1 = ""; failed[name] = $0; next }
+    { values[name] = values[name] " " $2; unit[name] = $3 }
+    END {
+        print "medians, and the rounds they are of"
+        for (i = 1; i <= count; i++) {
+            name = names[i]
+            if (name in values) printf "%-36s %14s %-8s of%s\n", name, median(name), unit[name], values[name]
+            if (name in failed) printf "%-36s%s\n", name, failed[name]
+        }
+        print ""
+        print "times as long as"
+        ratio("append one a call: a BufWriter", "dlog_append_folder", "baseline_append_folder")
+        ratio("append one a call: a write an item", "dlog_append_folder", "baseline_append_unbuffered_folder")
+        ratio("append 64 a call: a BufWriter", "dlog_append_64_folder", "baseline_append_64_folder")
+        ratio("read back: a scan that keeps all items", "dlog_read_folder", "baseline_read_folder")
+        ratio("open with repair: a scan and a cut", "dlog_open_repair_folder", "baseline_open_repair_folder")
+        ratio("round-robin: one log of dlog", "dlog_round_robin_folder", "dlog_append_folder")
+    }
+' "$work/lines"
