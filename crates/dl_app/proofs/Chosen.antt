@@ -1,59 +1,16 @@
 -- Options one after another, and their settings.
-use Rattle.std.proofs.Common.{◌≡◌, ℕ, ◌||◌, Bool, true, false, cond, Option, Some, None, List, [], ◌∷◌, codes, get_or, nat_eq, refl, sym, ◌∙◌, ap, subst}
+use Rattle.std.proofs.Common.{◌≡◌, ◌||◌, Bool, true, false, cond, Option, Some, None, List, [], ◌∷◌, ℕ, refl, sym, ◌∙◌, ap, subst}
 use Rattle.std.specs.List.{fold, list_any}
-use Rattle.std.proofs.lemmas.Bool.{eqb-false}
-use Rattle.std.proofs.lemmas.List.{append_cancel_left}
 use Rattle.dl_types.specs.declared.size.Kind.{Kind}
 use Rattle.dl_types.specs.declared.size.Kind.TheVariants.{Halt}
-use Rattle.dl_types.specs.declared.size.Mode.TheVariants.{ReadWrite, ReadOnly}
 use Rattle.dl_types.specs.declared.size.OpenArgs.{OpenArgs}
-use Rattle.dl_types.specs.declared.size.Repair.TheVariants.{Yes, No, Truncate}
-use Rattle.dl_types.specs.declared.size.Size.{Size}
-use Rattle.dl_types.specs.declared.size.Size.TheVariants.{Infinity, Limit}
 use Rattle.dl_app.specs.declared.options.Setting.{Setting}
 use Rattle.dl_app.specs.declared.options.Setting.TheVariants as setting
 use Rattle.dl_app.specs.declared.options.Settings.{Settings}
-use Rattle.dl_app.specs.Words.{number_in, WritesSize}
 use Rattle.dl_app.specs.Options.{WritesSetting, WriteSettings, AreOfOwnSorts, GiveSettings, MakeArgs, is_same_sort, with_setting}
 use Rattle.dl_app.specs.Settings.{no_settings, is_set, also_set, args_of}
 use Rattle.dl_app.specs.Command.{GivesArgs}
-
--- ---- an option writes one setting
-
--- one text is not two that differ at a letter
-letters : (a b i : ℕ) (text x y : List ℕ) → text ≡ x → text ≡ y → get_or x i 0 ≡ a → get_or y i 0 ≡ b → nat_eq a b ≡ false → ⊥
-letters a b i text x y p q at by differ =
-    eqb-false a b differ (sym at ∙ ap (λ (t : List ℕ). get_or t i 0) (sym p ∙ q) ∙ by)
-
-one_size : (word other : List ℕ) (m n : Size) → word ≡ other → WritesSize word (Some m) → WritesSize other (Some n) → m ≡ n
-one_size word other Infinity Infinity same p q = refl
-one_size word other Infinity (Limit n) same p q = absurd (q.0 (sym same ∙ p))
-one_size word other (Limit m) Infinity same p q = absurd (p.0 (same ∙ q))
-one_size word other (Limit m) (Limit n) same p q =
-    let e : Some m ≡ Some n = sym p.1 ∙ ap number_in same ∙ q.1 in cc
-
-pub one_setting : (option : List ℕ) (s t : Setting) → WritesSetting option s → WritesSetting option t → s ≡ t
-one_setting option (setting.Size m) (setting.Size n) p q =
-    ap setting.Size (one_size p.0 q.0 m n (append_cancel_left (codes "size=") p.0 q.0 (sym p.2 ∙ q.2)) p.1 q.1)
-one_setting option (setting.Size m) (setting.Mode n) p q = absurd (letters 115 109 0 option _ _ p.2 q refl refl refl)
-one_setting option (setting.Size m) (setting.Repair n) p q = absurd (letters 115 114 0 option _ _ p.2 q refl refl refl)
-one_setting option (setting.Mode m) (setting.Size n) p q = absurd (letters 109 115 0 option _ _ p q.2 refl refl refl)
-one_setting option (setting.Mode ReadWrite) (setting.Mode ReadWrite) p q = refl
-one_setting option (setting.Mode ReadWrite) (setting.Mode ReadOnly) p q = absurd (letters 119 111 6 option _ _ p q refl refl refl)
-one_setting option (setting.Mode ReadOnly) (setting.Mode ReadWrite) p q = absurd (letters 111 119 6 option _ _ p q refl refl refl)
-one_setting option (setting.Mode ReadOnly) (setting.Mode ReadOnly) p q = refl
-one_setting option (setting.Mode m) (setting.Repair n) p q = absurd (letters 109 114 0 option _ _ p q refl refl refl)
-one_setting option (setting.Repair m) (setting.Size n) p q = absurd (letters 114 115 0 option _ _ p q.2 refl refl refl)
-one_setting option (setting.Repair m) (setting.Mode n) p q = absurd (letters 114 109 0 option _ _ p q refl refl refl)
-one_setting option (setting.Repair Yes) (setting.Repair Yes) p q = refl
-one_setting option (setting.Repair Yes) (setting.Repair No) p q = absurd (letters 121 110 7 option _ _ p q refl refl refl)
-one_setting option (setting.Repair Yes) (setting.Repair Truncate) p q = absurd (letters 121 116 7 option _ _ p q refl refl refl)
-one_setting option (setting.Repair No) (setting.Repair Yes) p q = absurd (letters 110 121 7 option _ _ p q refl refl refl)
-one_setting option (setting.Repair No) (setting.Repair No) p q = refl
-one_setting option (setting.Repair No) (setting.Repair Truncate) p q = absurd (letters 110 116 7 option _ _ p q refl refl refl)
-one_setting option (setting.Repair Truncate) (setting.Repair Yes) p q = absurd (letters 116 121 7 option _ _ p q refl refl refl)
-one_setting option (setting.Repair Truncate) (setting.Repair No) p q = absurd (letters 116 110 7 option _ _ p q refl refl refl)
-one_setting option (setting.Repair Truncate) (setting.Repair Truncate) p q = refl
+use Rattle.dl_app.proofs.Written.{one_setting}
 
 -- ---- options that are read on from settings
 
@@ -76,15 +33,42 @@ no_one true b p q = let bad : ⊥ = cc in absurd bad
 no_one false b p q = q
 
 set_by : (all : Settings) (s t : Setting) → is_set (also_set all s) t ≡ (is_same_sort s t || is_set all t)
+set_by all (setting.Base x) (setting.Base y) = refl
+set_by all (setting.Base x) (setting.Size y) = refl
+set_by all (setting.Base x) (setting.Mode y) = refl
+set_by all (setting.Base x) (setting.Repair y) = refl
+set_by all (setting.Base x) (setting.Notify y) = refl
+set_by all (setting.Base x) (setting.Link y) = refl
+set_by all (setting.Size x) (setting.Base y) = refl
 set_by all (setting.Size x) (setting.Size y) = refl
 set_by all (setting.Size x) (setting.Mode y) = refl
 set_by all (setting.Size x) (setting.Repair y) = refl
+set_by all (setting.Size x) (setting.Notify y) = refl
+set_by all (setting.Size x) (setting.Link y) = refl
+set_by all (setting.Mode x) (setting.Base y) = refl
 set_by all (setting.Mode x) (setting.Size y) = refl
 set_by all (setting.Mode x) (setting.Mode y) = refl
 set_by all (setting.Mode x) (setting.Repair y) = refl
+set_by all (setting.Mode x) (setting.Notify y) = refl
+set_by all (setting.Mode x) (setting.Link y) = refl
+set_by all (setting.Repair x) (setting.Base y) = refl
 set_by all (setting.Repair x) (setting.Size y) = refl
 set_by all (setting.Repair x) (setting.Mode y) = refl
 set_by all (setting.Repair x) (setting.Repair y) = refl
+set_by all (setting.Repair x) (setting.Notify y) = refl
+set_by all (setting.Repair x) (setting.Link y) = refl
+set_by all (setting.Notify x) (setting.Base y) = refl
+set_by all (setting.Notify x) (setting.Size y) = refl
+set_by all (setting.Notify x) (setting.Mode y) = refl
+set_by all (setting.Notify x) (setting.Repair y) = refl
+set_by all (setting.Notify x) (setting.Notify y) = refl
+set_by all (setting.Notify x) (setting.Link y) = refl
+set_by all (setting.Link x) (setting.Base y) = refl
+set_by all (setting.Link x) (setting.Size y) = refl
+set_by all (setting.Link x) (setting.Mode y) = refl
+set_by all (setting.Link x) (setting.Repair y) = refl
+set_by all (setting.Link x) (setting.Notify y) = refl
+set_by all (setting.Link x) (setting.Link y) = refl
 
 any_set : (all : Settings) (s : Setting) (settings : List Setting)
     → list_any (is_set (also_set all s)) settings ≡ (list_any (is_same_sort s) settings || list_any (is_set all) settings)
@@ -115,9 +99,12 @@ given_reads all (option ∷ options) (s ∷ settings) write own unset =
 
 none_set : (settings : List Setting) → list_any (is_set no_settings) settings ≡ false
 none_set [] = refl
+none_set (setting.Base x ∷ settings) = none_set settings
 none_set (setting.Size x ∷ settings) = none_set settings
 none_set (setting.Mode x ∷ settings) = none_set settings
 none_set (setting.Repair x ∷ settings) = none_set settings
+none_set (setting.Notify x ∷ settings) = none_set settings
+none_set (setting.Link x ∷ settings) = none_set settings
 
 -- ---- the loop over options
 
@@ -160,9 +147,12 @@ none_given options all left option rest at back none settings given =
 -- ---- the arguments
 
 args_with : (all : Settings) (args : OpenArgs) (s : Setting) → args_of (also_set all s) args ≡ with_setting (args_of all args) s
+args_with all args (setting.Base x) = refl
 args_with all args (setting.Size x) = refl
 args_with all args (setting.Mode x) = refl
 args_with all args (setting.Repair x) = refl
+args_with all args (setting.Notify x) = refl
+args_with all args (setting.Link x) = refl
 
 -- settings on arguments are the arguments with each
 pub args_all : (all : Settings) (args : OpenArgs) (settings : List Setting) → args_of (fold also_set all settings) args ≡ fold with_setting (args_of all args) settings

@@ -5,10 +5,8 @@ use Rattle.std.specs.Bool.{then_some}
 use Rattle.dl_types.specs.declared.size.OpenArgs.{OpenArgs}
 use Rattle.dl_app.specs.declared.command.Call.{Call}
 use Rattle.dl_app.specs.declared.command.Call.TheVariants.{Open, Log, Chunk, Close}
-use Rattle.dl_app.specs.declared.command.Command.{Command}
-use Rattle.dl_app.specs.declared.command.Command.TheVariants.{Flush}
 use Rattle.dl_app.specs.declared.command.Start.{Start}
-use Rattle.dl_app.specs.Command.{IsForm, GivesCall, GivesArgs, GivesChunk, call_word}
+use Rattle.dl_app.specs.Command.{GivesCall, GivesArgs, GivesChunk, call_word}
 
 pub none_holds : {A : Type 0} (o : Option A) (P : Type 0) → P → IfNone o P
 none_holds None P p = p
@@ -36,24 +34,9 @@ no_chunk verb words is none (Chunk from most) same given = none from most given
 no_chunk verb words is none Close same given =
     second_letters _ _ (ap (λ (word : List ℕ). get_or word 1 0) (sym is ∙ same)) refl refl
 
--- a close has no other word
-pub close_form : (verb : List ℕ) (words : List (List ℕ)) → verb ≡ codes "close" → (b : Bool) → b ≡ (length words == 0) → (r : Option Call) → r ≡ then_some b Close
-    → IfSome r (λ call. (verb ≡ call_word call) × GivesCall words call)
-close_form verb words is b all None e = tt
-close_form verb [] is true all (Some call) e = let same : Close ≡ call = cc in by same
-  where
-    by : Close ≡ call → (verb ≡ call_word call) × GivesCall [] call
-    by e = subst (λ (c : Call). (verb ≡ call_word c) × GivesCall [] c) e (is, refl)
-close_form verb (word ∷ words) is true all (Some call) e = let bad : ⊥ = cc (eqb-suc-zero (length words)) in absurd bad
-close_form verb words is false all (Some call) e = let bad : ⊥ = cc in absurd bad
-
--- a flush has no other word
-pub flush_form : (words : List (List ℕ)) (first : List ℕ) (rest : List (List ℕ)) → words ≡ first ∷ rest → first ≡ codes "flush" → (b : Bool) → b ≡ (length rest == 0)
-    → (r : Option Command) → r ≡ then_some b Flush → IfSome r (λ command. IsForm words command)
-flush_form words first rest at is b all None e = tt
-flush_form words first [] at is true all (Some command) e =
-    let same : Flush ≡ command = cc in
-    let whole : words ≡ codes "flush" ∷ [] = cc in
-    subst (λ (c : Command). IsForm words c) same whole
-flush_form words first (word ∷ rest) at is true all (Some command) e = let bad : ⊥ = cc (eqb-suc-zero (length rest)) in absurd bad
-flush_form words first rest at is false all (Some command) e = let bad : ⊥ = cc in absurd bad
+-- what is given where no word is left
+pub where_ended : {A : Type 0} (P : A → Type 0) (x : A) (rest : List (List ℕ)) → (rest ≡ [] → P x) → (b : Bool) → b ≡ (length rest == 0) → (r : Option A) → r ≡ then_some b x → IfSome r P
+where_ended P x rest holds b all None e = tt
+where_ended P x [] holds true all (Some y) e = let same : x ≡ y = cc in subst P same (holds refl)
+where_ended P x (word ∷ rest) holds true all (Some y) e = let bad : ⊥ = cc (eqb-suc-zero (length rest)) in absurd bad
+where_ended P x rest holds false all (Some y) e = let bad : ⊥ = cc in absurd bad

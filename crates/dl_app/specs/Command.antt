@@ -63,6 +63,7 @@ IsCallForm words client log c =
 -- the words of a line have the form of this command
 abbrev pub IsForm : List (List ℕ) → Command → Type 0
 IsForm words (command.Call client log c) = IsCallForm words client log c
+IsForm words (command.Exit client) = (first : List ℕ) × (client_of (number_in first) ≡ Some client) × (words ≡ first ∷ codes "exit" ∷ [])
 IsForm words (command.File file) = IsFileName file × (words ≡ codes "file" ∷ file_text file ∷ [])
 IsForm words command.Flush = words ≡ codes "flush" ∷ []
 

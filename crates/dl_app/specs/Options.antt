@@ -2,12 +2,15 @@
 use Rattle.std.specs.Prelude.{◌≡◌, ℕ, List, [], ◌∷◌, ◌++◌, Bool, true, false, Some, codes, ⊤}
 use Rattle.std.specs.List.{fold, list_any}
 use Rattle.dl_types.specs.declared.size.Kind.{Kind}
+use Rattle.dl_types.specs.declared.size.Link.{Link}
+use Rattle.dl_types.specs.declared.size.Link.TheVariants.{Owner, Anonymous}
 use Rattle.dl_types.specs.declared.size.Mode.{Mode}
 use Rattle.dl_types.specs.declared.size.Mode.TheVariants.{ReadWrite, ReadOnly}
 use Rattle.dl_types.specs.declared.size.OpenArgs.{OpenArgs}
 use Rattle.dl_types.specs.declared.size.Repair.{Repair}
 use Rattle.dl_types.specs.declared.size.Repair.TheVariants.{Yes, No, Truncate}
 use Rattle.dl_types.specs.Mode.{plain_args}
+use Rattle.dl_types.specs.Name.{IsNameText, base_from}
 use Rattle.dl_app.specs.declared.options.Setting.{Setting}
 use Rattle.dl_app.specs.declared.options.Setting.TheVariants as setting
 use Rattle.dl_app.specs.Words.{WritesSize}
@@ -23,11 +26,24 @@ repair_word Yes = codes "yes"
 repair_word No = codes "no"
 repair_word Truncate = codes "truncate"
 
+-- the word for whether the notices of a log are wanted
+abbrev pub notify_word : Bool → List ℕ
+notify_word true = codes "yes"
+notify_word false = codes "no"
+
+-- the word of a part in a log
+abbrev pub link_word : Link → List ℕ
+link_word Owner = codes "owner"
+link_word Anonymous = codes "anon"
+
 -- an option writes this setting
 abbrev pub WritesSetting : List ℕ → Setting → Type 0
+WritesSetting option (setting.Base base) = (word : List ℕ) × IsNameText word × (base ≡ base_from word) × (option ≡ codes "base=" ++ word)
 WritesSetting option (setting.Size size) = (word : List ℕ) × WritesSize word (Some size) × (option ≡ codes "size=" ++ word)
 WritesSetting option (setting.Mode mode) = option ≡ codes "mode=" ++ mode_word mode
 WritesSetting option (setting.Repair repair) = option ≡ codes "repair=" ++ repair_word repair
+WritesSetting option (setting.Notify notify) = option ≡ codes "notify=" ++ notify_word notify
+WritesSetting option (setting.Link link) = option ≡ codes "link=" ++ link_word link
 
 -- options write these settings, each option one
 abbrev pub WriteSettings : List (List ℕ) → List Setting → Type 0
@@ -38,9 +54,12 @@ WriteSettings (option ∷ options) (s ∷ settings) = WritesSetting option s × 
 
 -- two settings of one sort
 abbrev pub is_same_sort : Setting → Setting → Bool
+is_same_sort (setting.Base base) (setting.Base other) = true
 is_same_sort (setting.Size size) (setting.Size other) = true
 is_same_sort (setting.Mode mode) (setting.Mode other) = true
 is_same_sort (setting.Repair repair) (setting.Repair other) = true
+is_same_sort (setting.Notify notify) (setting.Notify other) = true
+is_same_sort (setting.Link link) (setting.Link other) = true
 is_same_sort s t = false
 
 -- no two settings are of one sort
@@ -54,9 +73,12 @@ GiveSettings options settings = WriteSettings options settings × AreOfOwnSorts 
 
 -- arguments with a setting
 abbrev pub with_setting : OpenArgs → Setting → OpenArgs
+with_setting args (setting.Base base) = record args { base = Some base }
 with_setting args (setting.Size size) = record args { size = Some size }
 with_setting args (setting.Mode mode) = record args { mode = mode }
 with_setting args (setting.Repair repair) = record args { repair = repair }
+with_setting args (setting.Notify notify) = record args { notify = notify }
+with_setting args (setting.Link link) = record args { link = link }
 
 -- the arguments of an open of a log of this kind with these options
 abbrev pub MakeArgs : List (List ℕ) → Kind → OpenArgs → Type 0

@@ -20,10 +20,9 @@ use Rattle.dl_disk.specs.Disk.{Rises}
 use Rattle.dl_hub.specs.declared.fault.FileFault.{FileFault}
 use Rattle.dl_hub.specs.declared.fault.FileFault.TheVariants as fault
 use Rattle.dl_hub.specs.View.{HubView}
-use Rattle.dl_hub.specs.Call.{IsTurn}
 use Rattle.dl_hub.specs.Run.{IsRun}
 use Rattle.dl_app.specs.declared.command.Command.{Command}
-use Rattle.dl_app.specs.declared.command.Command.TheVariants.{Call, File, Flush}
+use Rattle.dl_app.specs.declared.command.Command.TheVariants.{Call, Exit, File, Flush}
 use Rattle.dl_app.specs.declared.lines.TheConstants.{LINE_LIMIT, LINES_LIMIT}
 use Rattle.dl_app.specs.Answers.{hex, IsLineOf, IsRefusalText, IsReplyText}
 use Rattle.dl_app.specs.Command.{IsForm, event_in, refusal_in}
@@ -48,10 +47,12 @@ IsShown file (Err fault.Device) text = IsRefusalText (DeviceFault file) text
 IsShown file (Err fault.OutOfMemory) text = ⊥
 
 module _ {D : Type 0} (content : D → Content) (honest : D → Bool) (faults : D → Base → ℕ) (known : D → Base → Bool) where
-  -- a file was read: the logs, what waits and the files stay, and what was read is what the file has
+  -- a file was read: the logs, their owners, what waits and the files stay, and what was read is what the file has
   pub record HasRead (file : FileName) (old new : HubView D) (shown : Result (Option (List ℕ)) FileFault) : Type 0 where
     pub logs : new.logs ≡ old.logs
     pub cache : new.cache ≡ old.cache
+    pub owners : new.owners ≡ old.owners
+    pub opened : new.opened ≡ old.opened
     pub files : IsTrue (honest new.disk) → content new.disk ≡ content old.disk
     pub acts : ActsOn content honest faults known file.base old.disk new.disk
     pub text : IsTrue (honest new.disk) → IfOk shown (λ text. text ≡ map.get (content old.disk) file)
@@ -72,16 +73,16 @@ module _ {D : Type 0} (content : D → Content) (honest : D → Bool) (faults : 
   IsCalled (Some refusal) client log event old new answer = (new ≡ old) × IsLineOf (IsRefusalText refusal) answer
   IsCalled None client log event old new answer = (outcome : Outcome Z) × IsAnswered event outcome old.hub new.hub answer × (new.places ≡ places_after outcome.reply client log old.places)
 
-  -- a turn of the cache was taken, and moves no client's place
-  abbrev pub IsFlushed : Stage D → Stage D → List ℕ → Type 0
-  IsFlushed old new answer =
-      (outcome : Outcome Z) × IsAnswered event.Flush outcome old.hub new.hub answer × IsTurn faults old.hub new.hub outcome.reply × (new.places ≡ old.places)
+  -- an event that is no call was run, and moves no client's place
+  abbrev pub IsStepped : Event Z → Stage D → Stage D → List ℕ → Type 0
+  IsStepped event old new answer = (outcome : Outcome Z) × IsAnswered event outcome old.hub new.hub answer × (new.places ≡ old.places)
 
   -- what a command does
   abbrev pub IsDone : Command → Stage D → Stage D → List ℕ → Type 0
   IsDone (Call client log c) old new answer = IsCalled (refusal_in c) client log (event_in client log c (old.places client log)) old new answer
+  IsDone (Exit client) old new answer = IsStepped (event.Exit client) old new answer
   IsDone (File file) old new answer = (new.places ≡ old.places) × ShowsFile content honest faults known file old.hub new.hub answer
-  IsDone Flush old new answer = IsFlushed old new answer
+  IsDone Flush old new answer = IsStepped event.Flush old new answer
 
   -- what a line does: nothing, or what its command does
   abbrev pub IsLine : List ℕ → Stage D → Stage D → List ℕ → Type 0

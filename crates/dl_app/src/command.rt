@@ -27,6 +27,8 @@ pub enum Command<'a> {
         log: Name,
         call: Call<'a>,
     },
+    /// A client is gone.
+    Exit(ClientId),
     /// The bytes of a file are shown.
     File(FileName),
     /// The oldest block of the bytes that wait is written.
@@ -71,7 +73,7 @@ pub fn command_of(line: &[u8]) -> Option<Command<'_>>
     } else if first == b"flush".as_slice() {
         words.is_empty().then_some(Command::Flush)
     } else {
-        call_of(first, words)
+        client_line(first, words)
     }
 }
 
@@ -84,8 +86,8 @@ fn file_of(mut words: Words<'_>) -> Option<Command<'_>>
     words.is_empty().then_some(Command::File(file))
 }
 
-// The call of the client that the first word writes.
-fn call_of<'a>(first: &[u8], mut words: Words<'a>) -> Option<Command<'a>>
+// What the client that the first word writes does.
+fn client_line<'a>(first: &[u8], mut words: Words<'a>) -> Option<Command<'a>>
     requires file { first.now ≢ codes "file" }
     requires flush { first.now ≢ codes "flush" }
     ensures form { IfSome result (λ command. IsForm (first.now ∷ words_left words.entry) command) }
@@ -93,6 +95,9 @@ fn call_of<'a>(first: &[u8], mut words: Words<'a>) -> Option<Command<'a>>
 {
     let client = client(first)?;
     let verb = words.next()?;
+    if verb == b"exit".as_slice() {
+        return words.is_empty().then_some(Command::Exit(client));
+    }
     let log = Name::parse(words.next()?)?;
     let call = verb_of(verb, words)?;
     Some(Command::Call { client, log, call })

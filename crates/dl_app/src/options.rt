@@ -1,32 +1,39 @@
 // The options of an open.
-ghost use Rattle.std.specs.Prelude.{◌≡◌, List, None, Some, IfSome, IfNone, if◌then◌else◌};
+ghost use Rattle.std.specs.Prelude.{◌≡◌, Bool, List, None, Some, IfSome, IfNone, if◌then◌else◌};
 ghost use Rattle.std.specs.List.{fold};
+ghost use Rattle.dl_types.specs.declared.size.Link.{Link};
 ghost use Rattle.dl_types.specs.declared.size.Mode.{Mode};
 ghost use Rattle.dl_types.specs.declared.size.Repair.{Repair};
 ghost use Rattle.dl_types.specs.declared.size.OpenArgs.{OpenArgs};
 ghost use Rattle.dl_types.specs.Mode.{plain_args};
 ghost use Rattle.dl_app.specs.declared.options.Setting.{Setting};
 ghost use Rattle.dl_app.specs.Words.{words_left};
-ghost use Rattle.dl_app.specs.Options.{mode_word, repair_word, WritesSetting, GiveSettings, MakeArgs};
+ghost use Rattle.dl_app.specs.Options.{mode_word, repair_word, notify_word, link_word, WritesSetting, GiveSettings, MakeArgs};
 ghost use Rattle.dl_app.specs.Settings.{no_settings, is_set, also_set, args_of};
 
 use crate::words::{Words, size};
-use dl_types::{Kind, Mode, OpenArgs, Repair, Size};
+use dl_types::{Base, Kind, Link, Mode, OpenArgs, Repair, Size};
 
 /// What an option of an open sets.
 #[derive(Clone, Copy)]
 pub enum Setting {
+    Base(Base),
     Size(Size),
     Mode(Mode),
     Repair(Repair),
+    Notify(bool),
+    Link(Link),
 }
 
 // What the options have set.
 #[derive(Clone, Copy)]
 struct Settings {
+    base: Option<Base>,
     size: Option<Size>,
     mode: Option<Mode>,
     repair: Option<Repair>,
+    notify: Option<bool>,
+    link: Option<Link>,
 }
 
 impl Settings {
@@ -35,9 +42,12 @@ impl Settings {
         ensures { result ≡ no_settings }
     {
         Settings {
+            base: None,
             size: None,
             mode: None,
             repair: None,
+            notify: None,
+            link: None,
         }
     }
 
@@ -46,6 +56,10 @@ impl Settings {
         ensures { result ≡ (if is_set self setting then None else Some (also_set self setting)) }
     {
         match setting {
+            Setting::Base(base) if self.base.is_none() => Some(Settings {
+                base: Some(base),
+                ..self
+            }),
             Setting::Size(size) if self.size.is_none() => Some(Settings {
                 size: Some(size),
                 ..self
@@ -58,6 +72,14 @@ impl Settings {
                 repair: Some(repair),
                 ..self
             }),
+            Setting::Notify(notify) if self.notify.is_none() => Some(Settings {
+                notify: Some(notify),
+                ..self
+            }),
+            Setting::Link(link) if self.link.is_none() => Some(Settings {
+                link: Some(link),
+                ..self
+            }),
             _ => None,
         }
     }
@@ -68,10 +90,13 @@ impl Settings {
     {
         let plain = OpenArgs::of(kind);
         OpenArgs {
+            base: self.base,
             kind,
             size: self.size,
             mode: self.mode.unwrap_or(plain.mode),
             repair: self.repair.unwrap_or(plain.repair),
+            notify: self.notify.unwrap_or(plain.notify),
+            link: self.link.unwrap_or(plain.link),
         }
     }
 }
@@ -101,12 +126,18 @@ fn setting_in(option: &[u8]) -> Option<Setting>
     ensures form { IfSome result (λ setting. WritesSetting option.now setting) }
     ensures none { IfNone result ((setting : Setting) → WritesSetting option.now setting → ⊥) }
 {
-    if let Some(word) = option.strip_prefix(b"size=") {
+    if let Some(word) = option.strip_prefix(b"base=") {
+        Some(Setting::Base(Base::parse(word)?))
+    } else if let Some(word) = option.strip_prefix(b"size=") {
         Some(Setting::Size(size(word)?))
     } else if let Some(word) = option.strip_prefix(b"mode=") {
         Some(Setting::Mode(mode_in(word)?))
+    } else if let Some(word) = option.strip_prefix(b"repair=") {
+        Some(Setting::Repair(repair_in(word)?))
+    } else if let Some(word) = option.strip_prefix(b"notify=") {
+        Some(Setting::Notify(notify_in(word)?))
     } else {
-        Some(Setting::Repair(repair_in(option.strip_prefix(b"repair=")?)?))
+        Some(Setting::Link(link_in(option.strip_prefix(b"link=")?)?))
     }
 }
 
@@ -135,6 +166,34 @@ fn repair_in(word: &[u8]) -> Option<Repair>
         Some(Repair::No)
     } else if word == b"truncate".as_slice() {
         Some(Repair::Truncate)
+    } else {
+        None
+    }
+}
+
+// Whether a word asks for the notices of a log.
+fn notify_in(word: &[u8]) -> Option<bool>
+    ensures form { IfSome result (λ notify. word.now ≡ notify_word notify) }
+    ensures none { IfNone result ((notify : Bool) → word.now ≡ notify_word notify → ⊥) }
+{
+    if word == b"yes".as_slice() {
+        Some(true)
+    } else if word == b"no".as_slice() {
+        Some(false)
+    } else {
+        None
+    }
+}
+
+// The part in a log that a word asks for.
+fn link_in(word: &[u8]) -> Option<Link>
+    ensures form { IfSome result (λ link. word.now ≡ link_word link) }
+    ensures none { IfNone result ((link : Link) → word.now ≡ link_word link → ⊥) }
+{
+    if word == b"owner".as_slice() {
+        Some(Link::Owner)
+    } else if word == b"anon".as_slice() {
+        Some(Link::Anonymous)
     } else {
         None
     }

@@ -6,7 +6,7 @@ ghost use Rattle.dl_app.specs.Answers.{hex};
 ghost use Rattle.dl_app.specs.Command.{event_in, refusal_in};
 ghost use Rattle.dl_app.specs.Lines.{HasLines};
 ghost use Rattle.dl_app.specs.Places.{place_of};
-ghost use Rattle.dl_app.specs.Script.{HasNoForm, IsBadLine, IsCalled, IsFlushed, IsLine, Runs, RunsOn, ShowsFile};
+ghost use Rattle.dl_app.specs.Script.{HasNoForm, IsBadLine, IsCalled, IsLine, IsStepped, Runs, RunsOn, ShowsFile};
 ghost use Rattle.dl_app.specs.Session.{stage_of, IsAnswerFault};
 
 use crate::answer::{push_hex, put_outcome, put_refusal};
@@ -112,7 +112,8 @@ impl<A: Allocator + Copy> Session<A> {
         match command_of(line).ok_or(ScriptFault::BadLine(number))? {
             Command::File(file) => show_file(file, &mut self.text, output, hub),
             Command::Call { client, log, call } => self.call(client, log, call, output, hub),
-            Command::Flush => self.flush(output, hub),
+            Command::Exit(client) => self.step(Event::Exit { client }, output, hub),
+            Command::Flush => self.step(Event::Flush, output, hub),
         }
     }
 
@@ -163,17 +164,18 @@ impl<A: Allocator + Copy> Session<A> {
         write_answer(self.text.as_slice(), output)
     }
 
-    // Writes the oldest block of the bytes that wait.
-    fn flush<W: Write, D: Disk + Drop>(
+    // Runs an event that is no call.
+    fn step<W: Write, D: Disk + Drop>(
         &mut self,
+        event: Event<A>,
         output: &mut W,
         hub: &mut Hub<D, A>,
     ) -> Result<(), ScriptFault>
-        ensures done { OnOk result ((answer : List ℕ) × IsFlushed D.content D.honest D.faults D.known A (stage_of hub.old self.old) (stage_of hub.new self.new) answer
+        ensures done { OnOk result ((answer : List ℕ) × IsStepped D.content D.honest D.faults D.known A event (stage_of hub.old self.old) (stage_of hub.new self.new) answer
             × Appends (W.contents output.old) (W.contents output.new) answer) }
         ensures fault { IfErr result IsAnswerFault }
     {
-        let outcome = hub.step(Event::Flush);
+        let outcome = hub.step(event);
         put_outcome(&mut self.text, &outcome)?;
         write_answer(self.text.as_slice(), output)
     }

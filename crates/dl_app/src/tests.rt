@@ -6,11 +6,14 @@ use dl_types::FileName;
 use std::alloc::{AllocError, Global};
 use std::process::Abort;
 
+mod bases;
 mod calls;
+mod exits;
 mod faults;
 mod forms;
 mod limits;
 mod opens;
+mod owners;
 mod turns;
 
 // Runs a script where no file is there, and compares what it answers and how it ends.

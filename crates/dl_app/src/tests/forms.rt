@@ -74,6 +74,26 @@ fn other_lines_are_bad(rt: HostRuntime) {
         "1 flush",
         "1 flush a",
         "FLUSH",
+        "exit",
+        "1 exit a",
+        "1 exit ",
+        "1 EXIT",
+        "4294967296 exit",
+        "exit 1",
+        "1 open a halt base",
+        "1 open a halt base=",
+        "1 open a halt base=a.b",
+        "1 open a halt base=a base=a",
+        "1 open a halt base=a size=16 base=b",
+        "1 open a halt notify",
+        "1 open a halt notify=",
+        "1 open a halt notify=maybe",
+        "1 open a halt notify=yes notify=yes",
+        "1 open a halt link=",
+        "1 open a halt link=user",
+        "1 open a halt link=anonymous",
+        "1 open a halt link=owner link=anon",
+        "1 open a halt size=15 link=maybe",
     ];
     for line in lines {
         answers(&rt, line.as_bytes(), b"", Err(ScriptFault::BadLine(1)));
@@ -90,6 +110,9 @@ fn options_come_in_any_order(rt: HostRuntime) {
         "size=50 mode=rw repair=yes",
         "size=50 repair=yes mode=rw",
         "size=50",
+        "base=a size=50 mode=rw repair=yes notify=yes link=owner",
+        "link=owner notify=no repair=yes mode=rw size=50 base=a",
+        "notify=no base=a link=anon size=50",
     ] {
         let script = format!(in rt.alloc();
             "1 open a halt {options}\n1 open a halt size=51\n1 open a halt\n"

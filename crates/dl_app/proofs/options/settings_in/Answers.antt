@@ -4,7 +4,8 @@ use Rattle.dl_app.specs.declared.options.Settings.{Settings}
 use Rattle.dl_app.specs.Words.{words_left}
 use Rattle.dl_app.specs.Settings.{no_settings, is_set, also_set}
 use Rattle.dl_app.proofs.Forms.{none_holds}
-use Rattle.dl_app.proofs.Chosen.{none_given, ReadOn, both_ways, read_gives, read_more, read_less, one_setting, is_new, is_twice}
+use Rattle.dl_app.proofs.Chosen.{none_given, ReadOn, both_ways, read_gives, read_more, read_less, is_new, is_twice}
+use Rattle.dl_app.proofs.Written.{one_setting}
 use Rattle.dl_app.proofs.options.settings_in.Goals as goal
 
 pub returns-in_err-setting_in-clause-none : goal.returns-in_err-setting_in-clause-none
