@@ -1,4 +1,3 @@
 pub mod Maps
 pub mod Acts
 pub mod FaultCounts
-pub mod Calls
