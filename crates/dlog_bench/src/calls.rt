@@ -1,4 +1,11 @@
 // Calls on a hub, as its one client makes them.
+ghost use Rattle.std.specs.Prelude.{◌≡◌, IsTrue, OnOk, Bool, []};
+ghost use Rattle.dl_types.specs.declared.name.Name.{Name};
+ghost use Rattle.dl_types.specs.declared.name.Base.{Base};
+ghost use Rattle.dl_types.specs.State.{LogState};
+ghost use Rattle.dl_hub.specs.Stands.{Stands};
+ghost use Rattle.dlog_bench.specs.Calls.{Answered, asked, opened, finished, chunk_in, is_opening, open_call, log_call, close_call, chunk_call};
+
 use crate::fault::BenchFault;
 use dl_disk::Disk;
 use dl_hub::Hub;
@@ -18,12 +25,16 @@ pub struct Chunk {
 }
 
 // Whether an open did its work.
-fn is_opened(reply: &Reply) -> bool {
+fn is_opened(reply: &Reply) -> bool
+    ensures { result ≡ is_opening reply.now }
+{
     matches!(reply, Reply::Opened | Reply::Repaired { .. })
 }
 
 // Does one event. A refusal and want of memory are faults here.
-fn ask<D: Disk + Drop>(hub: &mut Hub<D>, event: Event) -> Result<Reply, BenchFault> {
+fn ask<D: Disk + Drop>(hub: &mut Hub<D>, event: Event) -> Result<Reply, BenchFault>
+    ensures { Answered D.content D.honest D.faults hub.old hub.new event (λ reply. result ≡ asked reply) }
+{
     let Outcome { reply, notices: _ } = hub.step(event);
     match reply {
         Reply::Refused(refusal) => Err(BenchFault::Refused(refusal)),
@@ -33,7 +44,9 @@ fn ask<D: Disk + Drop>(hub: &mut Hub<D>, event: Event) -> Result<Reply, BenchFau
 }
 
 /// Opens a log. Its file is begun where it is not there, and repaired where that is needed.
-pub fn open<D: Disk + Drop>(hub: &mut Hub<D>, log: Name) -> Result<(), BenchFault> {
+pub fn open<D: Disk + Drop>(hub: &mut Hub<D>, log: Name) -> Result<(), BenchFault>
+    ensures { Answered D.content D.honest D.faults hub.old hub.new (open_call log) (λ reply. result ≡ opened reply) }
+{
     let event = Event::Open {
         client: CLIENT,
         log,
@@ -47,7 +60,9 @@ pub fn open<D: Disk + Drop>(hub: &mut Hub<D>, log: Name) -> Result<(), BenchFaul
 }
 
 /// The event that logs items.
-pub fn log_event(log: Name, items: Items) -> Event {
+pub fn log_event(log: Name, items: Items) -> Event
+    ensures { result ≡ log_call log items }
+{
     Event::Log {
         client: CLIENT,
         log,
@@ -56,7 +71,9 @@ pub fn log_event(log: Name, items: Items) -> Event {
 }
 
 /// Does an event that is answered by nothing more than that it was done.
-pub fn finish<D: Disk + Drop>(hub: &mut Hub<D>, event: Event) -> Result<(), BenchFault> {
+pub fn finish<D: Disk + Drop>(hub: &mut Hub<D>, event: Event) -> Result<(), BenchFault>
+    ensures { Answered D.content D.honest D.faults hub.old hub.new event (λ reply. result ≡ finished reply) }
+{
     match ask(hub, event)? {
         Reply::Done => Ok(()),
         _ => Err(BenchFault::Answer),
@@ -64,7 +81,11 @@ pub fn finish<D: Disk + Drop>(hub: &mut Hub<D>, event: Event) -> Result<(), Benc
 }
 
 /// Writes all that waits, block by block.
-pub fn flush_all<D: Disk + Drop>(hub: &mut Hub<D>) -> Result<(), BenchFault> {
+pub fn flush_all<D: Disk + Drop>(hub: &mut Hub<D>) -> Result<(), BenchFault>
+    ensures waits { OnOk result (hub.new.cache.entries ≡ []) }
+    ensures stayed { IsTrue (D.honest hub.new.disk) → IsTrue (D.honest hub.old.disk) }
+    ensures still { (L : Name) (bases : Base → Bool) (s : LogState) → Stands D.content hub.old L bases s → IsTrue (D.honest hub.new.disk) → Stands D.content hub.new L bases s }
+{
     for _turn in 0..u64::MAX {
         match ask(hub, Event::Flush)? {
             Reply::Turn(Turn::Drained(_)) => {}
@@ -72,11 +93,13 @@ pub fn flush_all<D: Disk + Drop>(hub: &mut Hub<D>) -> Result<(), BenchFault> {
             _ => return Err(BenchFault::Answer),
         }
     }
-    Ok(())
+    Err(BenchFault::Answer)
 }
 
 /// Closes a log.
-pub fn close<D: Disk + Drop>(hub: &mut Hub<D>, log: Name) -> Result<(), BenchFault> {
+pub fn close<D: Disk + Drop>(hub: &mut Hub<D>, log: Name) -> Result<(), BenchFault>
+    ensures { Answered D.content D.honest D.faults hub.old hub.new (close_call log) (λ reply. result ≡ finished reply) }
+{
     finish(
         hub,
         Event::Close {
@@ -91,7 +114,9 @@ pub fn read_chunk<D: Disk + Drop>(
     hub: &mut Hub<D>,
     log: Name,
     from: Place,
-) -> Result<Option<Chunk>, BenchFault> {
+) -> Result<Option<Chunk>, BenchFault>
+    ensures { Answered D.content D.honest D.faults hub.old hub.new (chunk_call log from) (λ reply. result ≡ chunk_in reply) }
+{
     let event = Event::Chunk {
         client: CLIENT,
         log,

@@ -1,4 +1,8 @@
 // Why a measure was not taken.
+ghost use Rattle.std.specs.Prelude.{◌≡◌};
+ghost use Rattle.dlog_bench.specs.declared.fault.BenchFault.TheVariants.{Refused, OutOfMemory};
+ghost use Rattle.dlog_bench.specs.Faults.{fault_of, fault_of_list, fault_of_file};
+
 use dl_disk::ListFault;
 use dl_hub::FileFault;
 use dl_types::{Fail, Refusal};
@@ -32,12 +36,16 @@ pub enum BenchFault {
 }
 
 impl From<Refusal> for BenchFault {
+    ghost from_gives = { λ refusal e. e ≡ Refused refusal };
+
     fn from(refusal: Refusal) -> BenchFault {
         BenchFault::Refused(refusal)
     }
 }
 
 impl From<Fail> for BenchFault {
+    ghost from_gives = { λ fail e. e ≡ fault_of fail };
+
     fn from(fail: Fail) -> BenchFault {
         match fail {
             Fail::Refused(refusal) => BenchFault::Refused(refusal),
@@ -47,6 +55,8 @@ impl From<Fail> for BenchFault {
 }
 
 impl From<ListFault> for BenchFault {
+    ghost from_gives = { λ fault e. e ≡ fault_of_list fault };
+
     fn from(fault: ListFault) -> BenchFault {
         match fault {
             ListFault::Device => BenchFault::Folder,
@@ -56,6 +66,8 @@ impl From<ListFault> for BenchFault {
 }
 
 impl From<FileFault> for BenchFault {
+    ghost from_gives = { λ fault e. e ≡ fault_of_file fault };
+
     fn from(fault: FileFault) -> BenchFault {
         match fault {
             FileFault::Device => BenchFault::Folder,
@@ -65,12 +77,16 @@ impl From<FileFault> for BenchFault {
 }
 
 impl From<AllocError> for BenchFault {
+    ghost from_gives = { λ _ e. e ≡ OutOfMemory };
+
     fn from(_error: AllocError) -> BenchFault {
         BenchFault::OutOfMemory
     }
 }
 
 impl<T: Drop> From<AllocFailed<T>> for BenchFault {
+    ghost from_gives = { λ _ e. e ≡ OutOfMemory };
+
     fn from(_error: AllocFailed<T>) -> BenchFault {
         BenchFault::OutOfMemory
     }

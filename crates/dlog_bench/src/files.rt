@@ -1,5 +1,10 @@
 // The logs of the benchmark, and their files.
-ghost use Rattle.std.specs.Prelude.{◌<◌, length};
+ghost use Rattle.std.specs.Prelude.{◌≡◌, ◌<◌, IsTrue, IfOk, List, codes, length, map, min};
+ghost use Rattle.std.specs.List.{range_with_len};
+ghost use Rattle.dl_types.specs.Add.{capped};
+ghost use Rattle.dl_types.specs.FileName.{halt_file};
+ghost use Rattle.dl_types.specs.Name.{name_of, base_of};
+ghost use Rattle.dlog_bench.specs.Files.{turn_name, names_in, files_of, bytes_of};
 
 use crate::fault::BenchFault;
 use dl_disk::Disk;
@@ -33,12 +38,16 @@ pub struct Extent {
 }
 
 // Reads a name, which begins with what all files of the benchmark begin with.
-fn name(text: &str) -> Result<Name, BenchFault> {
+fn name(text: &str) -> Result<Name, BenchFault>
+    ensures { IfOk result (λ name. name ≡ name_of text.now) }
+{
     Name::parse(text.as_bytes()).ok_or(BenchFault::Name)
 }
 
 // The names of so many logs that are written in turn.
-fn turn_names(alloc: Global, count: u64) -> Result<Vec<Name>, BenchFault> {
+fn turn_names(alloc: Global, count: u64) -> Result<Vec<Name>, BenchFault>
+    ensures { IfOk result (λ names. names.items ≡ map turn_name (range_with_len 0 count)) }
+{
     let mut names = Vec::new(alloc);
     for number in 0..count {
         let text = format!(in alloc; "bench_turn_{number}")?;
@@ -49,7 +58,11 @@ fn turn_names(alloc: Global, count: u64) -> Result<Vec<Name>, BenchFault> {
 
 impl Logs {
     /// The names for so many items: no more logs are written in turn than there are items.
-    pub fn new(alloc: Global, items: u64) -> Result<Logs, BenchFault> {
+    pub fn new(alloc: Global, items: u64) -> Result<Logs, BenchFault>
+        ensures one { IfOk result (λ logs. logs.one ≡ name_of (codes "bench_one")) }
+        ensures many { IfOk result (λ logs. logs.many ≡ name_of (codes "bench_many")) }
+        ensures turns { IfOk result (λ logs. logs.turns.items ≡ map turn_name (range_with_len 0 (min items MOST_LOGS))) }
+    {
         let turns = turn_names(alloc, items.min(MOST_LOGS))?;
         if turns.is_empty() {
             return Err(BenchFault::Name);
@@ -62,7 +75,9 @@ impl Logs {
     }
 
     // All names.
-    fn all(&self) -> Result<Vec<Name>, BenchFault> {
+    fn all(&self) -> Result<Vec<Name>, BenchFault>
+        ensures { IfOk result (λ names. names.items ≡ names_in self.now.turns.items self.now.one self.now.many) }
+    {
         let mut all = self.turns.clone()?;
         all.push(self.one)?;
         all.push(self.many)?;
@@ -71,7 +86,9 @@ impl Logs {
 }
 
 /// The file of a log.
-pub fn file_of(log: Name) -> FileName {
+pub fn file_of(log: Name) -> FileName
+    ensures { result ≡ halt_file (base_of log) }
+{
     FileName::halt(Base::of(log))
 }
 
@@ -94,7 +111,13 @@ pub fn clear(rt: &(impl Files + AllocGlobal), folder: &str, logs: &Logs) -> Resu
 }
 
 /// The files of these logs, as they stand on the disk.
-pub fn extent_of<D: Disk + Drop>(hub: &mut Hub<D>, logs: &Logs) -> Result<Extent, BenchFault> {
+pub fn extent_of<D: Disk + Drop>(hub: &mut Hub<D>, logs: &Logs) -> Result<Extent, BenchFault>
+    ensures logs { hub.new.logs ≡ hub.old.logs }
+    ensures cache { hub.new.cache ≡ hub.old.cache }
+    ensures content { IsTrue (D.honest hub.new.disk) → D.content hub.new.disk ≡ D.content hub.old.disk }
+    ensures files { IsTrue (D.honest hub.new.disk) → IfOk result (λ extent. extent.files ≡ capped (files_of (D.content hub.old.disk) (names_in logs.now.turns.items logs.now.one logs.now.many))) }
+    ensures bytes { IsTrue (D.honest hub.new.disk) → IfOk result (λ extent. extent.bytes ≡ capped (bytes_of (D.content hub.old.disk) (names_in logs.now.turns.items logs.now.one logs.now.many))) }
+{
     let mut files = 0u64;
     let mut bytes = 0u64;
     for log in logs.all()? {

@@ -1,5 +1,6 @@
 // The lines that are printed.
-ghost use Rattle.std.specs.Prelude.{◌<◌};
+ghost use Rattle.std.specs.Prelude.{◌≡◌, ◌<◌, true, false};
+ghost use Rattle.dlog_bench.specs.Report.{shown_by, is_counts, is_whole};
 
 use crate::fault::BenchFault;
 use crate::files::Extent;
@@ -62,17 +63,24 @@ fn line(
 
 impl Report {
     /// No line yet.
-    pub fn new(shown: Shown) -> Report {
+    pub fn new(shown: Shown) -> Report
+        ensures shown { shown_by result ≡ shown }
+        ensures whole { is_whole result ≡ true }
+    {
         Report { shown, whole: true }
     }
 
     /// Whether counts are shown.
-    pub fn shows_counts(&self) -> bool {
+    pub fn shows_counts(&self) -> bool
+        ensures { result ≡ is_counts (shown_by self.now) }
+    {
         self.shown == Shown::Counts
     }
 
     /// Whether each measure so far was taken.
-    pub fn is_whole(&self) -> bool {
+    pub fn is_whole(&self) -> bool
+        ensures { result ≡ is_whole self.now }
+    {
         self.whole
     }
 
@@ -145,7 +153,10 @@ impl Report {
         name: &str,
         place: &str,
         fault: BenchFault,
-    ) -> Result<(), BenchFault> {
+    ) -> Result<(), BenchFault>
+        ensures whole { is_whole self.new ≡ false }
+        ensures shown { shown_by self.new ≡ shown_by self.old }
+    {
         self.whole = false;
         line(rt, name, place, "failed", fault)
     }

@@ -1,0 +1,5 @@
+pub mod Faults
+pub mod Calls
+pub mod Files
+pub mod Items
+pub mod Report
