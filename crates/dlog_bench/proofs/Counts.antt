@@ -1,6 +1,7 @@
 -- Items of numbers that follow one another.
-use Rattle.std.proofs.Common.{◌≡◌, ◌≤◌, ◌<◌, ℕ, zero, suc, ◌+◌, ◌-◌, ◌^◌, List, [], ◌∷◌, ◌++◌, Option, Some, map, length, refl, ap, sym, ◌∙◌, arith}
+use Rattle.std.proofs.Common.{◌≡◌, ◌≤◌, ◌<◌, ℕ, zero, suc, ◌+◌, ◌-◌, ◌^◌, List, [], ◌∷◌, ◌++◌, Option, Some, map, take, length, refl, ap, sym, ◌∙◌, arith}
 use Rattle.std.specs.List.{range_with_len}
+use Rattle.std.proofs.lemmas.List.{map-append, take_all}
 use Rattle.std.proofs.lemmas.Nat.{from_be_bytes-to_be_bytes_8}
 use Rattle.std.proofs.lemmas.List.FromFn.{length-map-range_with_len, map-range_with_len_more}
 use Rattle.dlog_bench.specs.Items.{item_of, items_between, number_in, CountFrom}
@@ -33,3 +34,15 @@ items_grow first n old new x h is_old is_x is_new =
 -- the same items, where as many numbers lie between
 pub items_same : (first m n : ℕ) → m - first ≡ n - first → items_between first m ≡ items_between first n
 items_same first m n e = ap (λ (k : ℕ). map item_of (range_with_len first k)) e
+
+-- one more item that says the next number
+pub count_grows : (first n : ℕ) (front new : List (List ℕ)) (x : List ℕ) → new ≡ front ++ x ∷ [] → map number_in front ≡ map Some (range_with_len first n) → number_in x ≡ Some (first + n)
+    → map number_in new ≡ map Some (range_with_len first (n + 1))
+count_grows first n front new x is_new counts says =
+    ap (map number_in) is_new ∙ map-append number_in front (x ∷ []) ∙ ap (λ (os : List (Option ℕ)). os ++ number_in x ∷ []) counts
+    ∙ ap (λ (o : Option ℕ). map Some (range_with_len first n) ++ o ∷ []) says ∙ sym (map-range_with_len_more Some first n (first + n) refl)
+
+-- a front that is the whole
+pub count_whole : (first : ℕ) (xs : List (List ℕ)) (n : ℕ) → n ≡ length xs → map number_in (take n xs) ≡ map Some (range_with_len first n) → CountFrom first xs
+count_whole first xs n e h =
+    ap (map number_in) (sym (take_all n xs (omega arith))) ∙ h ∙ ap (λ (k : ℕ). map Some (range_with_len first k)) e

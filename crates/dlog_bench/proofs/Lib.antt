@@ -1,3 +1,5 @@
 mod Counts
+mod Done
 mod Flushes
 mod Names
+mod Rows

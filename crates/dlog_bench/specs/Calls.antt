@@ -1,5 +1,5 @@
 -- Calls of the one client, and what their replies come to.
-use Rattle.std.specs.Prelude.{ℕ, List, Bool, true, false, Option, Some, None, Result, Ok, Err}
+use Rattle.std.specs.Prelude.{◌≡◌, IsTrue, ℕ, List, [], ◌∷◌, Bool, true, false, Option, Some, None, Result, Ok, Err}
 use Rattle.std.specs.declared.alloc.Global.{Global}
 use Rattle.dl_types.specs.declared.name.Name.{Name}
 use Rattle.dl_types.specs.declared.name.Base.{Base}
@@ -13,7 +13,9 @@ use Rattle.dl_types.specs.declared.reply.Reply.{Reply}
 use Rattle.dl_types.specs.declared.reply.Reply.TheVariants as reply
 use Rattle.dl_types.specs.FileName.{Content}
 use Rattle.dl_types.specs.Mode.{plain_args}
+use Rattle.dl_types.specs.State.{LogState}
 use Rattle.dl_hub.specs.View.{HubView}
+use Rattle.dl_hub.specs.Stands.{Stands}
 use Rattle.dl_hub.specs.Call.{IsPrivate}
 use Rattle.dlog_bench.specs.declared.calls.TheConstants.{CLIENT, CHUNK_ITEMS}
 use Rattle.dlog_bench.specs.declared.calls.Chunk.{Chunk}
@@ -38,6 +40,17 @@ pub record Answered {D Z : Type 0} (content : D → Content) (honest : D → Boo
   pub outcome : Outcome Z
   pub did : IsPrivate content honest faults old new e outcome
   pub says : Says outcome.reply
+
+-- nothing waits, and each log stands for what it stood for
+pub record IsFlushed {D : Type 0} (content : D → Content) (honest : D → Bool) (old new : HubView D) : Type 0 where
+  pub waits : new.cache.entries ≡ []
+  pub stayed : IsTrue (honest new.disk) → IsTrue (honest old.disk)
+  pub still : (L : Name) (bases : Base → Bool) (s : LogState) → Stands content old L bases s → IsTrue (honest new.disk) → Stands content new L bases s
+
+-- these events were done in order, each of them with no more to say
+abbrev pub DidAll : {D Z : Type 0} → (D → Content) → (D → Bool) → (D → Base → ℕ) → HubView D → HubView D → List (Event Z) → Type 0
+DidAll content honest faults old new [] = new ≡ old
+DidAll {D} content honest faults old new (e ∷ es) = (mid : HubView D) × Answered content honest faults old mid e (λ r. r ≡ reply.Done) × DidAll content honest faults mid new es
 
 module _ {Z : Type 0} where
   -- a refusal and want of memory are faults of any call

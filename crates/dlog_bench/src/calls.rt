@@ -1,10 +1,10 @@
 // Calls on a hub, as its one client makes them.
-ghost use Rattle.std.specs.Prelude.{◌≡◌, IsTrue, OnOk, Bool, []};
+ghost use Rattle.std.specs.Prelude.{◌≡◌, IsTrue, OnOk, Bool};
 ghost use Rattle.dl_types.specs.declared.name.Name.{Name};
 ghost use Rattle.dl_types.specs.declared.name.Base.{Base};
 ghost use Rattle.dl_types.specs.State.{LogState};
 ghost use Rattle.dl_hub.specs.Stands.{Stands};
-ghost use Rattle.dlog_bench.specs.Calls.{Answered, asked, opened, finished, chunk_in, is_opening, open_call, log_call, close_call, chunk_call};
+ghost use Rattle.dlog_bench.specs.Calls.{Answered, IsFlushed, asked, opened, finished, chunk_in, is_opening, open_call, log_call, close_call, chunk_call};
 
 use crate::fault::BenchFault;
 use dl_disk::Disk;
@@ -82,7 +82,7 @@ pub fn finish<D: Disk + Drop>(hub: &mut Hub<D>, event: Event) -> Result<(), Benc
 
 /// Writes all that waits, block by block.
 pub fn flush_all<D: Disk + Drop>(hub: &mut Hub<D>) -> Result<(), BenchFault>
-    ensures waits { OnOk result (hub.new.cache.entries ≡ []) }
+    ensures flushed { OnOk result (IsFlushed D.content D.honest hub.old hub.new) }
     ensures stayed { IsTrue (D.honest hub.new.disk) → IsTrue (D.honest hub.old.disk) }
     ensures still { (L : Name) (bases : Base → Bool) (s : LogState) → Stands D.content hub.old L bases s → IsTrue (D.honest hub.new.disk) → Stands D.content hub.new L bases s }
 {

@@ -1,5 +1,9 @@
 // What is timed: items that are logged, and items that are read back.
-ghost use Rattle.std.specs.Prelude.{◌<◌, length};
+ghost use Rattle.std.specs.Prelude.{◌≡◌, ◌<◌, ◌+◌, ◌-◌, IfOk, OnOk, length, vec_len};
+ghost use Rattle.dl_hub.specs.View.{HubView};
+ghost use Rattle.dlog_bench.specs.Items.{CountFrom};
+ghost use Rattle.dlog_bench.specs.Calls.{DidAll, IsFlushed};
+ghost use Rattle.dlog_bench.specs.Load.{call_at, calls_from, all_calls};
 
 use crate::calls::{Chunk, finish, flush_all, log_event, read_chunk};
 use crate::fault::BenchFault;
@@ -41,6 +45,7 @@ pub fn since(clock: &impl Clock, start: Instant) -> Result<Duration, BenchFault>
 // The event of the call of this number. The calls go to the logs in turn.
 fn log_call(alloc: Global, logs: &[Name], load: Load, call: u64) -> Result<Event, BenchFault>
     requires { 0 < length logs.now }
+    ensures { IfOk result (λ event. event ≡ call_at logs.now load.items load.each call) }
 {
     let first = load.each.saturating_mul(call);
     let end = load.items.min(first.saturating_add(load.each));
@@ -57,6 +62,7 @@ fn log_calls(
     end: u64,
 ) -> Result<Vec<Event>, BenchFault>
     requires { 0 < length logs.now }
+    ensures { IfOk result (λ events. events.items ≡ calls_from logs.now load.items load.each first (end - first)) }
 {
     let mut events = Vec::new(alloc);
     for call in first..end {
@@ -70,7 +76,9 @@ fn time_events<D: Disk + Drop>(
     clock: &impl Clock,
     hub: &mut Hub<D>,
     events: Vec<Event>,
-) -> Result<Duration, BenchFault> {
+) -> Result<Duration, BenchFault>
+    ensures { OnOk result (DidAll D.content D.honest D.faults hub.old hub.new events.items) }
+{
     let start = now(clock)?;
     for event in events {
         finish(hub, event)?;
@@ -86,6 +94,8 @@ pub fn append<R: Clock + AllocGlobal, D: Disk + Drop>(
     load: Load,
 ) -> Result<Sample, BenchFault>
     requires { 0 < length logs.now }
+    ensures items { IfOk result (λ sample. sample.items ≡ load.items) }
+    ensures logged { OnOk result ((mid : HubView D) × DidAll D.content D.honest D.faults hub.old mid (all_calls logs.now load.items load.each) × IsFlushed D.content D.honest mid hub.new) }
 {
     let calls = load.items.div_ceil(load.each);
     let mut spent = Duration::ZERO;
@@ -103,13 +113,16 @@ pub fn append<R: Clock + AllocGlobal, D: Disk + Drop>(
 }
 
 // Sees that the items of a chunk go on from a number, and answers the number behind them.
-fn pass(chunk: &Chunk, first: u64) -> Result<u64, BenchFault> {
+fn pass(chunk: &Chunk, first: u64) -> Result<u64, BenchFault>
+    ensures numbers { OnOk result (CountFrom first chunk.now.items) }
+    ensures behind { IfOk result (λ number. number ≡ first + length chunk.now.items) }
+{
     let mut number = first;
     for item in chunk.items.as_slice() {
         if number_of(item) != Some(number) {
             return Err(BenchFault::Items);
         }
-        number = number.saturating_add(1);
+        number = number.checked_add(1).ok_or(BenchFault::Items)?;
     }
     Ok(number)
 }
@@ -120,7 +133,9 @@ pub fn read_all<D: Disk + Drop>(
     hub: &mut Hub<D>,
     log: Name,
     wanted: u64,
-) -> Result<Sample, BenchFault> {
+) -> Result<Sample, BenchFault>
+    ensures { IfOk result (λ sample. sample.items ≡ wanted) }
+{
     let start = now(clock)?;
     let mut from = Place::Start;
     let mut items = 0;
