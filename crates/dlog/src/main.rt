@@ -1,6 +1,10 @@
 //! The program: a script of calls on standard input, and its answers on standard output.
 #![tactic(auto)]
 
+ghost use Rattle.std.specs.Prelude.{◌≡◌};
+ghost use Rattle.std.specs.Process.{exit_status};
+ghost use Rattle.dlog.specs.Status.{status_of, status_after};
+
 use anyhow::Result;
 use clap::error::ErrorKind;
 use clap::{Arg, ArgMatches, Command, Error, value_parser};
@@ -107,15 +111,34 @@ fn run_over<D: Disk + Drop>(rt: &HostRuntime, disk: D, blocks: u32) -> ExitCode 
     let (Ok(mut input), Ok(mut output)) = (input, output) else {
         return tell(rt, ScriptFault::OutOfMemory, FAILED);
     };
-    match run_script(alloc, &mut input, &mut output, &mut hub) {
+    let done = run_script(alloc, &mut input, &mut output, &mut hub);
+    end(rt, done)
+}
+
+// Says why a script was not run to its end, where it was not.
+fn end(rt: &HostRuntime, done: Result<(), ScriptFault>) -> ExitCode
+    ensures { exit_status result ≡ status_after done }
+{
+    match done {
         Ok(()) => ExitCode::SUCCESS,
-        Err(fault @ ScriptFault::BadLine(_)) => tell(rt, fault, MISUSED),
-        Err(fault) => tell(rt, fault, FAILED),
+        Err(fault) => tell(rt, fault, status_of(fault)),
+    }
+}
+
+// The status that a fault ends the program with.
+fn status_of(fault: ScriptFault) -> u8
+    ensures { result ≡ status_of fault }
+{
+    match fault {
+        ScriptFault::BadLine(_) => MISUSED,
+        ScriptFault::Read | ScriptFault::Write | ScriptFault::OutOfMemory => FAILED,
     }
 }
 
 // Says what went wrong on standard error. Where that is closed too, the status alone says it.
-fn tell(rt: &HostRuntime, what: impl Display + Drop, status: u8) -> ExitCode {
+fn tell(rt: &HostRuntime, what: impl Display + Drop, status: u8) -> ExitCode
+    ensures { exit_status result ≡ status }
+{
     let _ = eprintln!(rt; "dlog: {what}");
     ExitCode::from(status)
 }
