@@ -1,6 +1,4 @@
 // Opening a log whose file an earlier run left.
-ghost use Rattle.std.specs.Prelude.{◌≡◌, IfOk, []};
-
 use crate::calls::open;
 use crate::fault::BenchFault;
 use crate::files::file_of;
@@ -16,20 +14,16 @@ pub const BLOCKS: u32 = 16;
 const TORN: [u8; 5] = [0, 0, 0, 100, 0xd1];
 
 /// The disk over a folder.
-pub fn open_folder(rt: &HostRuntime, folder: &str) -> Result<FolderDisk<HostRuntime>, BenchFault>
-    ensures { IfOk result (λ disk. disk ≡ []) }
-{
+pub fn open_folder(rt: &HostRuntime, folder: &str) -> Result<FolderDisk<HostRuntime>, BenchFault> {
     let own = rt.clone().map_err(|_| BenchFault::OutOfMemory)?;
     Ok(FolderDisk::open(own, folder)?)
 }
 
 /// A hub over a folder, with no log open.
-pub fn open_hub(rt: &HostRuntime, folder: &str) -> Result<Hub<FolderDisk<HostRuntime>>, BenchFault>
-    ensures none_known { IfOk result (λ hub. hub.disk ≡ []) }
-    ensures none_open { IfOk result (λ hub. hub.logs ≡ []) }
-    ensures none_waits { IfOk result (λ hub. hub.cache.entries ≡ []) }
-    ensures blocks { IfOk result (λ hub. hub.cache.blocks ≡ BLOCKS) }
-{
+pub fn open_hub(
+    rt: &HostRuntime,
+    folder: &str,
+) -> Result<Hub<FolderDisk<HostRuntime>>, BenchFault> {
     Ok(Hub::new(rt.alloc(), open_folder(rt, folder)?, BLOCKS)?)
 }
 
@@ -46,9 +40,12 @@ pub fn tear(rt: &HostRuntime, folder: &str, log: Name) -> Result<(), BenchFault>
 }
 
 /// Opens a log whose file is there, which alone is timed, and then sees that it has so many items.
-pub fn reopen(rt: &HostRuntime, folder: &str, log: Name, wanted: u64) -> Result<Sample, BenchFault>
-    ensures { IfOk result (λ sample. sample.items ≡ wanted) }
-{
+pub fn reopen(
+    rt: &HostRuntime,
+    folder: &str,
+    log: Name,
+    wanted: u64,
+) -> Result<Sample, BenchFault> {
     let mut hub = open_hub(rt, folder)?;
     let start = now(rt)?;
     open(&mut hub, log)?;
