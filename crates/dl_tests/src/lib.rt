@@ -1,0 +1,2 @@
+//! Tests of the libraries that need their public calls alone.
+#![tactic(auto)]
