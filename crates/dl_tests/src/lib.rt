@@ -1,2 +1,5 @@
 //! Tests of the libraries that need their public calls alone.
 #![tactic(auto)]
+
+#[cfg(test)]
+mod file;
