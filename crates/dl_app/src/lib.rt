@@ -13,6 +13,3 @@ mod words;
 
 pub use fault::ScriptFault;
 pub use script::run_script;
-
-#[cfg(test)]
-mod tests;

@@ -2,4 +2,6 @@
 #![tactic(auto)]
 
 #[cfg(test)]
+mod app;
+#[cfg(test)]
 mod file;
