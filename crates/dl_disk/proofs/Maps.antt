@@ -1,8 +1,8 @@
 -- A table of files as a finite map, and such a map after one change.
-use Rattle.std.proofs.Common.{◌≡◌, ◌≢◌, ◌↔◌, ℕ, ◌<◌, List, [], ◌∷◌, map, length, Bool, true, false, cond, Option, Some, None, IsSome, Vec, Contains, refl, sym, ◌∙◌, ap, subst, option_map, get_or, arith, true≢false}
+use Rattle.std.proofs.Common.{◌≡◌, ◌≢◌, ◌↔◌, ℕ, ◌<◌, List, [], ◌∷◌, map, length, Bool, true, false, cond, Option, Some, None, IsSome, Vec, vec_len, Contains, refl, sym, ◌∙◌, ap, subst, option_map, get_or, arith, true≢false}
 use Rattle.std.specs.Map.{lookup, keys_of}
-use Rattle.std.specs.List.{IsDistinct}
-use Rattle.std.specs.FinMap.{find, insert, remove, get-insert, get-remove, get-from_entries, same_map}
+use Rattle.std.specs.List.{IsDistinct, AllZip, each_same}
+use Rattle.std.specs.FinMap.{find, from_entries, insert, remove, get-insert, get-remove, get-from_entries, same_map}
 use Rattle.std.specs.FinMap as finite
 use Rattle.std.specs.Ordering.{eq_by_cmp}
 use Rattle.std.proofs.lemmas.Map.Keys.{apart_from_distinct}
@@ -56,6 +56,15 @@ once names distinct i j d below_i below_j same = by_order i j below_i below_j sa
         let not_above : b < a → ⊥ = λ lt. differ b a lt p (sym e) in
         omega arith
 
+-- ---- a clone of a table
+-- each entry of the clone is that of the table
+pub entries_copied : {K X : Type 0} (es fs : List (K × X)) → AllZip (λ p q. (q.0 ≡ p.0) × (q.1 ≡ p.1)) es fs → fs ≡ es
+entries_copied [] [] h = refl
+entries_copied [] (f ∷ fs) h = elim h [ ]
+entries_copied (e ∷ es) [] h = elim h [ ]
+entries_copied (e ∷ es) (f ∷ fs) h =
+    ap (λ k. (k, f.1) ∷ fs) h.0.0 ∙ ap (λ x. (e.0, x) ∷ fs) h.0.1 ∙ ap (λ l. e ∷ l) (entries_copied es fs h.1)
+
 -- ---- a table of files
 module _ {Z : Type 0} where
   abbrev bytes_of : Vec ℕ Z → List ℕ
@@ -97,6 +106,20 @@ module _ {Z : Type 0} where
     -- a vector was replaced by one with the same bytes
     pub content_kept : (v w : Vec ℕ Z) → Some v ≡ lookup (eq file) old → w.items ≡ v.items → Changes (Some w) → content_of new ≡ content_of old
     content_kept v w was same is = content_put w is ∙ ap (insert (content_of old) file) same ∙ put_again (content_of old) file v.items (content_is old file (Some v) was)
+
+  -- a clone has the same files
+  pub content_copied : (es fs : List (FileName × Vec ℕ Z)) → AllZip (λ p q. (q.0 ≡ p.0) × (AllZip (λ x y. y ≡ x) p.1.items q.1.items × (vec_len q.1 ≡ vec_len p.1))) es fs
+      → content_of fs ≡ content_of es
+  content_copied es fs h = ap from_entries (lists es fs h)
+    where
+      lists : (es fs : List (FileName × Vec ℕ Z)) → AllZip (λ p q. (q.0 ≡ p.0) × (AllZip (λ x y. y ≡ x) p.1.items q.1.items × (vec_len q.1 ≡ vec_len p.1))) es fs
+          → map with_bytes fs ≡ map with_bytes es
+      lists [] [] h = refl
+      lists [] (f ∷ fs) h = elim h [ ]
+      lists (e ∷ es) [] h = elim h [ ]
+      lists (e ∷ es) (f ∷ fs) h = ap (λ k. (k, f.1.items) ∷ map with_bytes fs) h.0.0
+          ∙ ap (λ t. (e.0, t) ∷ map with_bytes fs) (each_same e.1.items f.1.items h.0.1.0)
+          ∙ ap (λ l. (e.0, e.1.items) ∷ l) (lists es fs h.1)
 
   is_some_bytes : (o : Option (Vec ℕ Z)) → (IsSome o → IsSome (option_map bytes_of o)) × (IsSome (option_map bytes_of o) → IsSome o)
   is_some_bytes None = (λ h. h, λ h. h)

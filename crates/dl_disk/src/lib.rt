@@ -8,8 +8,6 @@ mod files;
 mod folder;
 mod fuse;
 mod memory;
-#[cfg(test)]
-mod tests;
 
 pub use disk::Disk;
 pub use fault::{Fault, ListFault};

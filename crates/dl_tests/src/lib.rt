@@ -4,4 +4,6 @@
 #[cfg(test)]
 mod app;
 #[cfg(test)]
+mod disk;
+#[cfg(test)]
 mod file;

@@ -1,0 +1,168 @@
+// A disk over a folder of the system, call by call, beside a disk in memory.
+use super::rig::{Call, Rig, Row, TEXT, queue};
+use dl_disk::{Disk, Fault, FolderDisk, ListFault};
+use dl_types::Part;
+use std::alloc::AllocError;
+use std::path::PathBuf;
+use std::test::Fail;
+use std::{env, fs, io, process};
+
+// A folder of one test alone, with nothing in it to begin with.
+#[derive(Drop)]
+struct Place {
+    rt: HostRuntime,
+    path: PathBuf,
+}
+
+impl Place {
+    fn new(rt: &HostRuntime, test: &str) -> Result<Place, Fail> {
+        let name = format!(in rt.alloc(); "dl_disk-{test}-{}", process::id(rt.process()))?;
+        let path = env::temp_dir(rt)?.join(rt.alloc(), name.as_str())?;
+        if fs::exists(rt, path.as_path())? {
+            fs::remove_dir_all(rt, path.as_path())?;
+        }
+        fs::create_dir(rt, path.as_path())?;
+        Ok(Place {
+            rt: rt.clone()?,
+            path,
+        })
+    }
+
+    // Where an entry of this name stands.
+    fn at(&self, name: &str) -> io::Result<PathBuf> {
+        Ok(self.path.join(self.rt.alloc(), name)?)
+    }
+
+    fn lay(&self, name: &str, text: &str) -> io::Result<()> {
+        fs::write(&self.rt, self.at(name)?, text)
+    }
+
+    fn has(&self, name: &str) -> io::Result<bool> {
+        fs::exists(&self.rt, self.at(name)?)
+    }
+
+    fn disk(&self) -> Result<Rig<FolderDisk<HostRuntime>>, Fail> {
+        Ok(Rig {
+            disk: FolderDisk::open(self.rt.clone()?, self.path.as_str())?,
+            base: queue()?,
+        })
+    }
+
+    fn clear(&self) -> io::Result<()> {
+        fs::remove_dir_all(&self.rt, self.path.as_path())
+    }
+}
+
+// The calls that are made on a folder and on a disk in memory.
+const CALLS: [Row<'static>; 23] = [
+    (Part::Halt, Call::Sync, false),
+    (Part::Halt, Call::Write(0, b"x"), false),
+    (Part::Halt, Call::Cut(0), false),
+    (Part::Halt, Call::Rename(Part::Index), false),
+    (Part::Halt, Call::Remove, true),
+    (Part::Halt, Call::Put(TEXT), true),
+    (Part::Halt, Call::Write(4, b"XYZ"), true),
+    (Part::Halt, Call::Write(8, b"!"), false),
+    (Part::Halt, Call::Write(7, b"!"), true),
+    (Part::Halt, Call::Put(b""), true),
+    (Part::Halt, Call::Write(0, TEXT), true),
+    (Part::Halt, Call::Sync, true),
+    (Part::Halt, Call::Cut(7), false),
+    (Part::Halt, Call::Cut(3), true),
+    (Part::Halt, Call::Write(1, b"--"), true),
+    (Part::Index, Call::Put(b"0123"), true),
+    (Part::Index, Call::Write(4, b"4567"), true),
+    (Part::Halt, Call::Rename(Part::Index), true),
+    (Part::Halt, Call::Write(0, b"x"), false),
+    (Part::Index, Call::Write(3, b"&"), true),
+    (Part::Index, Call::Rename(Part::Index), true),
+    (Part::Index, Call::Remove, true),
+    (Part::Index, Call::Write(0, b"x"), false),
+];
+
+// Whether two disks say the same of both files.
+fn agree<D: Disk + Drop, E: Disk + Drop>(
+    one: &mut Rig<D>,
+    other: &mut Rig<E>,
+) -> Result<bool, AllocError> {
+    let halt = one.look(Part::Halt, 2)? == other.look(Part::Halt, 2)?;
+    let index = one.look(Part::Index, 2)? == other.look(Part::Index, 2)?;
+    Ok(halt && index)
+}
+
+#[test]
+fn a_folder_answers_as_a_disk_in_memory(rt: HostRuntime) -> Result<(), Fail> {
+    let place = Place::new(&rt, "calls")?;
+    let mut rig = place.disk()?;
+    let mut model = Rig::empty(rt.alloc())?;
+    for row in CALLS.iter() {
+        assert_eq!(rt; rig.first_wrong(&[*row])?, None);
+        assert_eq!(rt; model.first_wrong(&[*row])?, None);
+        assert!(rt; agree(&mut rig, &mut model)?);
+    }
+    assert_eq!(rt; rig.disk.fault_count(rig.base), model.faults());
+    place.clear()?;
+    Ok(())
+}
+
+#[test]
+fn files_have_their_bytes_and_other_names_are_passed_over(rt: HostRuntime) -> Result<(), Fail> {
+    let place = Place::new(&rt, "names")?;
+    for name in ["queue.log.new", "queue", "queue.01", "notes.txt", ".log"] {
+        place.lay(name, "not a log")?;
+    }
+    place.lay("queue.idx", "left")?;
+    let mut rig = place.disk()?;
+    assert_eq!(rt;
+        rig.first_wrong(&[(Part::Halt, Call::Put(TEXT), true)])?,
+        None
+    );
+    let mut names = rig.disk.list(rt.alloc())?;
+    names.sort()?;
+    let files = [rig.file(Part::Halt), rig.file(Part::Index)];
+    assert_eq!(rt; names.as_slice(), files.as_slice());
+    let text = fs::read_to_string(&rt, place.at("queue.log")?)?;
+    assert_eq!(rt; text.as_bytes(), TEXT.as_slice());
+    assert!(rt; !place.has("queue.log.new")?);
+    let left = rig.look(Part::Index, 2)?;
+    assert_eq!(rt; (left.size, left.read), (Ok(Some(4)), Ok(2)));
+    assert_eq!(rt; left.bytes, *b"ft\0\0");
+    place.clear()?;
+    Ok(())
+}
+
+// Calls on a file in whose place there is a folder.
+const ON_A_FOLDER: [Row<'static>; 6] = [
+    (Part::Halt, Call::Size, false),
+    (Part::Halt, Call::Read, false),
+    (Part::Halt, Call::Put(TEXT), false),
+    (Part::Halt, Call::Write(0, TEXT), false),
+    (Part::Halt, Call::Remove, false),
+    (Part::Halt, Call::Rename(Part::Index), false),
+];
+
+#[test]
+fn a_folder_in_the_place_of_a_file_is_a_counted_fault(rt: HostRuntime) -> Result<(), Fail> {
+    let place = Place::new(&rt, "no_file")?;
+    fs::create_dir(&rt, place.at("queue.log")?)?;
+    let mut rig = place.disk()?;
+    assert_eq!(rt; rig.first_wrong(&ON_A_FOLDER)?, None);
+    assert_eq!(rt; rig.disk.fault_count(rig.base), Some(6));
+    assert!(rt; !place.has("queue.log.new")?);
+    place.clear()?;
+    Ok(())
+}
+
+#[test]
+fn a_path_that_is_no_folder_is_refused(rt: HostRuntime) -> Result<(), Fail> {
+    let place = Place::new(&rt, "no_folder")?;
+    place.lay("plain", "")?;
+    let missing = place.at("missing")?;
+    let plain = place.at("plain")?;
+    for text in [missing.as_str(), plain.as_str(), ""] {
+        let disk = FolderDisk::open(rt.clone()?, text);
+        assert!(rt; matches!(disk, Err(ListFault::Device)), "{text:?}");
+    }
+    place.clear()?;
+    Ok(())
+}
