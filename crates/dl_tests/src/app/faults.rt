@@ -17,7 +17,7 @@ fn a_failing_reader_ends_the_script(rt: HostRuntime) {
     ];
     for (fault, ended) in rows {
         let mut input = Pieces::of(b"1 close a\n# not yet at its end", fault);
-        let is = is_answered(rt.alloc(), &mut input, b"E2 no_such_log\n", ended);
+        let is = is_answered(&rt, &mut input, b"E2 no_such_log\n", ended);
         assert!(rt; is, "{ended:?}");
     }
 }
@@ -26,7 +26,7 @@ fn a_failing_reader_ends_the_script(rt: HostRuntime) {
 fn an_interrupted_read_is_tried_again(rt: HostRuntime) {
     let mut input = Pieces::interrupted(b"1 close a\n\n1 log a\nbad\n");
     let text = b"E2 no_such_log\nE1 bad_arg items\n";
-    let is = is_answered(rt.alloc(), &mut input, text, Err(ScriptFault::BadLine(4)));
+    let is = is_answered(&rt, &mut input, text, Err(ScriptFault::BadLine(4)));
     assert!(rt; is);
 }
 
@@ -35,7 +35,7 @@ fn a_long_line_is_bad_in_whatever_pieces_it_comes(rt: HostRuntime) -> Result<(),
     for (count, ended) in [(65_535, Ok(())), (65_536, Err(ScriptFault::BadLine(1)))] {
         let text = filled(rt.alloc(), b"#", count, b'x', b"\n\n")?;
         let mut input = Pieces::of(text.as_slice(), None);
-        let is = is_answered(rt.alloc(), &mut input, b"", ended);
+        let is = is_answered(&rt, &mut input, b"", ended);
         assert!(rt; is, "{count}");
     }
     Ok(())
@@ -53,7 +53,7 @@ fn a_failing_writer_ends_the_script(rt: HostRuntime) {
     for (left, flushes, ended) in rows {
         let mut input = b"1 close a\n1 close a\nbad\n".as_slice();
         let mut output = Room { left, flushes };
-        let end = run_alone(rt.alloc(), &mut input, &mut output);
+        let end = run_alone(&rt, &mut input, &mut output);
         assert_eq!(rt; end, ended, "{left} {flushes}");
     }
 }

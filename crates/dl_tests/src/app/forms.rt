@@ -23,7 +23,7 @@ fn other_bytes_make_a_line_bad(rt: HostRuntime) {
         b"1 log a 3*\xe9",
     ];
     for line in lines {
-        let is = answers(rt.alloc(), line, b"", Err(ScriptFault::BadLine(1)));
+        let is = answers(&rt, line, b"", Err(ScriptFault::BadLine(1)));
         assert!(rt; is, "{line:?}");
     }
 }
@@ -41,12 +41,7 @@ fn a_space_at_an_end_makes_a_line_bad(rt: HostRuntime) {
         "1 open a halt ",
         " # a",
     ] {
-        let is = answers(
-            rt.alloc(),
-            line.as_bytes(),
-            b"",
-            Err(ScriptFault::BadLine(1)),
-        );
+        let is = answers(&rt, line.as_bytes(), b"", Err(ScriptFault::BadLine(1)));
         assert!(rt; is, "{line:?}");
     }
 }
@@ -54,14 +49,14 @@ fn a_space_at_an_end_makes_a_line_bad(rt: HostRuntime) {
 #[test]
 fn a_comment_may_hold_any_byte(rt: HostRuntime) {
     let script = b"#\0\r\t\x7f\xff\n\n# \xc3\xa9\r\n1 close a";
-    let is = answers(rt.alloc(), script, b"E2 no_such_log\n", Ok(()));
+    let is = answers(&rt, script, b"E2 no_such_log\n", Ok(()));
     assert!(rt; is);
 }
 
 #[test]
 fn a_script_may_be_empty(rt: HostRuntime) {
     for script in ["", "\n", "\n\n#\n", "#"] {
-        let is = answers(rt.alloc(), script.as_bytes(), b"", Ok(()));
+        let is = answers(&rt, script.as_bytes(), b"", Ok(()));
         assert!(rt; is, "{script:?}");
     }
 }

@@ -28,7 +28,7 @@ fn a_line_has_a_limit(rt: HostRuntime) -> Result<(), AllocError> {
     ];
     for (before, count, after, text, ended) in rows {
         let script = filled(rt.alloc(), before, count, b'x', after)?;
-        let is = answers(rt.alloc(), script.as_slice(), text, ended);
+        let is = answers(&rt, script.as_slice(), text, ended);
         assert!(rt; is, "{count} {after:?}");
     }
     Ok(())
@@ -44,7 +44,7 @@ fn a_script_has_a_million_lines(rt: HostRuntime) -> Result<(), AllocError> {
     ];
     for (count, after, text, ended) in rows {
         let script = filled(rt.alloc(), b"", count, b'\n', after)?;
-        let is = answers(rt.alloc(), script.as_slice(), text, ended);
+        let is = answers(&rt, script.as_slice(), text, ended);
         assert!(rt; is, "{count} {after:?}");
     }
     Ok(())
