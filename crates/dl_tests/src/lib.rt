@@ -7,3 +7,5 @@ mod app;
 mod disk;
 #[cfg(test)]
 mod file;
+#[cfg(test)]
+mod hub;
