@@ -9,3 +9,5 @@ mod disk;
 mod file;
 #[cfg(test)]
 mod hub;
+#[cfg(test)]
+mod types;
