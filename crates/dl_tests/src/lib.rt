@@ -8,6 +8,8 @@ mod disk;
 #[cfg(test)]
 mod file;
 #[cfg(test)]
+mod frame;
+#[cfg(test)]
 mod hub;
 #[cfg(test)]
 mod types;
