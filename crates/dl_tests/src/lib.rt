@@ -4,6 +4,8 @@
 #[cfg(test)]
 mod app;
 #[cfg(test)]
+mod cache;
+#[cfg(test)]
 mod disk;
 #[cfg(test)]
 mod file;
