@@ -14,4 +14,6 @@ mod frame;
 #[cfg(test)]
 mod hub;
 #[cfg(test)]
+mod index;
+#[cfg(test)]
 mod types;
