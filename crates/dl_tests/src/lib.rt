@@ -16,4 +16,6 @@ mod hub;
 #[cfg(test)]
 mod index;
 #[cfg(test)]
+mod owners;
+#[cfg(test)]
 mod types;
