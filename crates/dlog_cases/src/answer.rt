@@ -1,0 +1,52 @@
+// Answers as a case writes them.
+use crate::fault::CaseFault;
+use hex::FromHexError;
+use std::alloc::{AllocError, Global};
+
+// How many copies a piece may ask for: the digits of the longest item.
+const COPIES_LIMIT: u64 = 2_097_152;
+
+/// The text that an answer stands for: `K*TEXT` is K copies of TEXT, and `+` joins pieces into one word.
+pub fn expanded(alloc: Global, answer: &str) -> Result<String, AllocError> {
+    let mut text = String::new(alloc);
+    for (at, word) in answer.split(' ').enumerate() {
+        if at > 0 {
+            text.push(' ')?;
+        }
+        for piece in word.split('+') {
+            push_piece(&mut text, piece)?;
+        }
+    }
+    Ok(text)
+}
+
+// Adds a piece of a word.
+fn push_piece(text: &mut String, piece: &str) -> Result<(), AllocError> {
+    let Some((count, copied)) = copies_of(piece) else {
+        text.push_str(piece)?;
+        return Ok(());
+    };
+    for _ in 0..count {
+        text.push_str(copied)?;
+    }
+    Ok(())
+}
+
+// How many copies of what a piece asks for.
+fn copies_of(piece: &str) -> Option<(u64, &str)> {
+    let (count, copied) = piece.split_once('*')?;
+    let count = count.parse::<u64>().ok()?;
+    (count <= COPIES_LIMIT).then_some((count, copied))
+}
+
+/// The bytes that are written in hexadecimal, in the form of an answer; `-` is no bytes.
+pub fn bytes_of(alloc: Global, digits: &str) -> Result<Vec<u8>, CaseFault> {
+    if digits == "-" {
+        return Ok(Vec::new(alloc));
+    }
+    let text = expanded(alloc, digits)?;
+    hex::decode(alloc, text.as_str()).map_err(|error| match error {
+        FromHexError::OutOfMemory => CaseFault::OutOfMemory,
+        _ => CaseFault::BadBytes,
+    })
+}

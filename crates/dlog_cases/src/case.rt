@@ -1,0 +1,228 @@
+// A case as its file writes it.
+use crate::fault::CaseFault;
+use dl_disk::Fuse;
+use dl_types::{Base, FileName};
+use std::alloc::{AllocError, Global};
+
+// The numbers of blocks that a case is run with if it names none.
+const BLOCKS: &str = "1 2 16";
+
+/// The answer to a line that has no form of a script.
+pub const BAD_LINE: &str = "bad line";
+
+/// A line of a script, and the answer that it is to get.
+#[derive(Clone, Copy)]
+pub struct Line<'a> {
+    /// The number of the line in the case's file, counted from 1.
+    pub number: u64,
+    pub text: &'a str,
+    pub answer: &'a str,
+}
+
+/// A file that is there before a hub begins.
+#[derive(Clone, Copy)]
+pub struct LaidFile<'a> {
+    pub name: FileName,
+    /// Its bytes in hexadecimal, as an answer writes them.
+    pub digits: &'a str,
+}
+
+/// A failure of the device: after so many calls on the files of a base one call fails, or each.
+#[derive(Clone, Copy)]
+pub struct Failure {
+    pub base: Base,
+    pub calls: u64,
+    pub fuse: Fuse,
+}
+
+/// What a case does next.
+#[derive(Clone, Copy)]
+pub enum Step<'a> {
+    /// The case is run with these numbers of blocks.
+    Blocks(&'a str),
+    File(LaidFile<'a>),
+    Fail(Failure),
+    Line(Line<'a>),
+    /// The device no longer fails, and the next line begins a new script.
+    Mend,
+    /// The hub ends, and a new one begins on the same files.
+    Again,
+}
+
+// A line of a case's file.
+#[derive(Clone, Copy)]
+enum Form<'a> {
+    Comment,
+    // What the script line before it answers.
+    Answer(&'a str),
+    // What the runner is to do.
+    Order(&'a str),
+    Script(&'a str),
+}
+
+// A line of the script that has no answer yet, and its number.
+type Asked<'a> = Option<(u64, &'a str)>;
+
+/// Reads the text of a case.
+pub fn steps_of(alloc: Global, text: &str) -> Result<Vec<Step<'_>>, CaseFault> {
+    let mut steps = Vec::new(alloc);
+    let mut asked = None;
+    let mut number = 0u64;
+    for line in text.lines() {
+        number = number.saturating_add(1);
+        asked = take_line(&mut steps, number, line, asked)?;
+    }
+    match asked {
+        None => Ok(steps),
+        Some((number, _)) => Err(CaseFault::NoAnswer(number)),
+    }
+}
+
+// Takes a line, after the script line that still has no answer. Gives the one that has none then.
+fn take_line<'a>(
+    steps: &mut Vec<Step<'a>>,
+    number: u64,
+    line: &'a str,
+    asked: Asked<'a>,
+) -> Result<Asked<'a>, CaseFault> {
+    match form_of(line) {
+        Form::Comment => Ok(asked),
+        Form::Answer(answer) => {
+            let (number, text) = asked.ok_or(CaseFault::NoLine(number))?;
+            let line = Line {
+                number,
+                text,
+                answer,
+            };
+            push(steps, Step::Line(line))?;
+            Ok(None)
+        }
+        Form::Script(text) => {
+            all_answered(asked)?;
+            Ok(Some((number, text)))
+        }
+        Form::Order(words) => {
+            all_answered(asked)?;
+            let step = order_of(words).ok_or(CaseFault::BadOrder(number))?;
+            if is_late(steps.as_slice(), step) {
+                return Err(CaseFault::LateOrder(number));
+            }
+            push(steps, step)?;
+            Ok(None)
+        }
+    }
+}
+
+// Adds a step.
+fn push<'a>(steps: &mut Vec<Step<'a>>, step: Step<'a>) -> Result<(), AllocError> {
+    steps.push(step)?;
+    Ok(())
+}
+
+// Refuses a case in which a script line has no answer.
+fn all_answered(asked: Asked<'_>) -> Result<(), CaseFault> {
+    match asked {
+        None => Ok(()),
+        Some((number, _)) => Err(CaseFault::NoAnswer(number)),
+    }
+}
+
+// The form of a line.
+fn form_of(line: &str) -> Form<'_> {
+    if line.is_empty() || line.starts_with('#') {
+        return Form::Comment;
+    }
+    match (line.strip_prefix("= "), line.strip_prefix("! ")) {
+        (Some(answer), _) => Form::Answer(answer),
+        (None, Some(words)) => Form::Order(words),
+        (None, None) => Form::Script(line),
+    }
+}
+
+// The order that these words are, if they are one.
+fn order_of(text: &str) -> Option<Step<'_>> {
+    let (order, others) = text.split_once(' ').unwrap_or((text, ""));
+    if order == "blocks" {
+        Some(Step::Blocks(others))
+    } else if order == "file" {
+        file_of(others).map(Step::File)
+    } else if order == "fail" {
+        failure_of(others).map(Step::Fail)
+    } else if text == "mend" {
+        Some(Step::Mend)
+    } else if text == "again" {
+        Some(Step::Again)
+    } else {
+        None
+    }
+}
+
+fn file_of(text: &str) -> Option<LaidFile<'_>> {
+    let (name, digits) = text.split_once(' ')?;
+    let name = FileName::parse(name.as_bytes())?;
+    Some(LaidFile { name, digits })
+}
+
+fn failure_of(text: &str) -> Option<Failure> {
+    let (base, others) = text.split_once(' ')?;
+    let (calls, fuse) = others.split_once(' ')?;
+    Some(Failure {
+        base: Base::parse(base.as_bytes())?,
+        calls: calls.parse::<u64>().ok()?,
+        fuse: fuse_of(fuse)?,
+    })
+}
+
+fn fuse_of(word: &str) -> Option<Fuse> {
+    if word == "one" {
+        Some(Fuse::One)
+    } else if word == "all" {
+        Some(Fuse::All)
+    } else {
+        None
+    }
+}
+
+// Whether a step comes after a line of its hub and has to stand before.
+fn is_late(steps: &[Step<'_>], step: Step<'_>) -> bool {
+    match step {
+        Step::Blocks(_) => steps.iter().any(|step| !is_setting(*step)),
+        Step::File(_) | Step::Fail(_) => {
+            let begun = steps.iter().rev().find(|step| !is_setting(**step));
+            begun.is_some_and(|step| !matches!(step, Step::Again))
+        }
+        Step::Line(_) | Step::Mend | Step::Again => false,
+    }
+}
+
+// Whether a step says how a hub begins.
+fn is_setting(step: Step<'_>) -> bool {
+    matches!(step, Step::Blocks(_) | Step::File(_) | Step::Fail(_))
+}
+
+/// The numbers of blocks that a case is run with.
+pub fn blocks_of(alloc: Global, steps: &[Step<'_>]) -> Result<Vec<u32>, CaseFault> {
+    let words = steps.iter().find_map(|step| match step {
+        Step::Blocks(words) => Some(*words),
+        _ => None,
+    });
+    let mut numbers = Vec::new(alloc);
+    for word in words.unwrap_or(BLOCKS).split(' ') {
+        let number = word.parse::<u32>().map_err(|_| CaseFault::BadBlocks)?;
+        numbers.push(number)?;
+    }
+    Ok(numbers)
+}
+
+/// How many answers a case has.
+pub fn count_answers(steps: &[Step<'_>]) -> u64 {
+    steps
+        .iter()
+        .filter(|step| matches!(step, Step::Line(_)))
+        .count() as u64
+}
+
+/// Whether the device fails.
+pub fn has_failure(steps: &[Step<'_>]) -> bool {
+    steps.iter().any(|step| matches!(step, Step::Fail(_)))
+}

@@ -1,0 +1,79 @@
+// Why a case fails.
+use dl_app::ScriptFault;
+use dl_types::{Fail, Name};
+use std::alloc::{AllocError, AllocFailed};
+use std::fmt::Write;
+use std::{fmt, io};
+use thiserror::Error;
+
+/// Why a case fails, or cannot be run.
+#[derive(Clone, Copy, Debug, Error)]
+pub enum CaseFault {
+    #[error("line {0} answers otherwise")]
+    Differs(u64),
+    #[error("line {0} has no answer")]
+    NoAnswer(u64),
+    #[error("line {0} is an answer to no line")]
+    NoLine(u64),
+    #[error("line {0} is no order that the runner knows")]
+    BadOrder(u64),
+    #[error("line {0} has to stand before the lines of its hub")]
+    LateOrder(u64),
+    #[error("a number of blocks is none")]
+    BadBlocks,
+    #[error("the bytes of a file are not in hexadecimal")]
+    BadBytes,
+    #[error("the script ended: {0}")]
+    Script(ScriptFault),
+    #[error("no hub: {0}")]
+    Hub(Fail),
+    #[error("the folder of the case failed")]
+    Folder,
+    #[error("out of memory")]
+    OutOfMemory,
+}
+
+impl From<AllocError> for CaseFault {
+    fn from(_: AllocError) -> CaseFault {
+        CaseFault::OutOfMemory
+    }
+}
+
+impl<T: Drop> From<AllocFailed<T>> for CaseFault {
+    fn from(_: AllocFailed<T>) -> CaseFault {
+        CaseFault::OutOfMemory
+    }
+}
+
+impl From<io::Error> for CaseFault {
+    fn from(_: io::Error) -> CaseFault {
+        CaseFault::Folder
+    }
+}
+
+/// How a case was run.
+#[derive(Clone, Copy, Debug)]
+pub enum How {
+    Memory,
+    Folder,
+    /// One of its logs alone, in memory.
+    Alone(Option<Name>),
+}
+
+impl How {
+    /// The log of this name alone.
+    pub fn alone(log: &str) -> How {
+        How::Alone(Name::parse(log.as_bytes()))
+    }
+}
+
+impl fmt::Display for How {
+    fn fmt<W: fmt::Write>(&self, f: &mut fmt::Formatter<W>) -> fmt::Result {
+        match self {
+            How::Memory => f.write_str("in memory"),
+            How::Folder => f.write_str("in a folder"),
+            How::Alone(None) => f.write_str("a log alone"),
+            How::Alone(Some(log)) => write!(f, "log {log} alone"),
+        }
+    }
+}
