@@ -1,18 +1,12 @@
-//! Tests of the libraries that need their public calls alone.
+//! Tests of the lowest libraries that need their public calls alone.
 #![tactic(auto)]
 
-#[cfg(test)]
-mod app;
 #[cfg(test)]
 mod cache;
 #[cfg(test)]
 mod disk;
 #[cfg(test)]
-mod file;
-#[cfg(test)]
 mod frame;
-#[cfg(test)]
-mod hub;
 #[cfg(test)]
 mod index;
 #[cfg(test)]
