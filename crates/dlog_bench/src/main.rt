@@ -1,28 +1,21 @@
 //! The benchmark: how fast items are logged, read back and found again, over a folder and over memory.
 #![tactic(auto)]
 
-mod calls;
-mod fault;
-mod files;
-mod items;
-mod load;
+mod bench;
+mod client;
 mod measures;
-mod memory;
-mod reopen;
-mod report;
 
 use anyhow::Result;
+use bench::Bench;
 use clap::error::ErrorKind;
 use clap::{Arg, ArgAction, ArgMatches, Command, Error, value_parser};
-use fault::BenchFault;
 use measures::measure_all;
-use report::{Report, Shown};
 use std::alloc::{AllocError, Global};
 use std::env;
 use std::fmt::Display;
 use std::process::ExitCode;
 
-// The status where a measure could not be taken, and where what was given is wrong.
+// The status if a measure could not be taken, and if the words are wrong.
 const FAILED: u8 = 1;
 
 const MISUSED: u8 = 2;
@@ -44,11 +37,11 @@ fn main(rt: HostRuntime) -> Result<ExitCode> {
 // Shows what was asked for, as the help, or what is wrong with the words.
 fn show(rt: &HostRuntime, error: &Error) -> ExitCode {
     if error.kind() == ErrorKind::OutOfMemory {
-        return tell(rt, BenchFault::OutOfMemory, FAILED);
+        return tell(rt, "out of memory", FAILED);
     }
     match error.print(rt) {
         Ok(()) => ExitCode::from(error.exit_code() as u8),
-        Err(_) => tell(rt, BenchFault::Write, FAILED),
+        Err(_) => tell(rt, "write", FAILED),
     }
 }
 
@@ -83,20 +76,20 @@ fn run(rt: &HostRuntime, words: &ArgMatches<'_>) -> ExitCode {
     else {
         return ExitCode::from(MISUSED);
     };
-    let shown = if words.get_flag("counts") {
-        Shown::Counts
-    } else {
-        Shown::Rates
+    let bench = Bench {
+        rt,
+        place: "folder",
+        items: u64::from(items),
+        counts: words.get_flag("counts"),
     };
-    let mut report = Report::new(shown);
-    match measure_all(rt, folder, u64::from(items), &mut report) {
-        Ok(()) if report.is_whole() => ExitCode::SUCCESS,
-        Ok(()) => ExitCode::from(FAILED),
-        Err(fault) => tell(rt, fault, FAILED),
+    match measure_all(bench, folder) {
+        Ok(true) => ExitCode::SUCCESS,
+        Ok(false) => ExitCode::from(FAILED),
+        Err(error) => tell(rt, error, FAILED),
     }
 }
 
-// Says what went wrong on standard error. Where that is closed too, the status alone says it.
+// Says what went wrong on standard error. If that is closed too, the status alone says it.
 fn tell(rt: &HostRuntime, what: impl Display + Drop, status: u8) -> ExitCode {
     let _ = eprintln!(rt; "dlog_bench: {what}");
     ExitCode::from(status)

@@ -1,5 +1,0 @@
-mod Counts
-mod Done
-mod Flushes
-mod Names
-mod Rows
