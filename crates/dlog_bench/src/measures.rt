@@ -80,14 +80,24 @@ fn open_folder(rt: &HostRuntime, folder: &str) -> Result<FolderDisk<HostRuntime>
 
 // The measures over a folder. The first hub is let go with logs open, as a stop lets it go.
 fn measure_folder(bench: Bench<'_>, folder: &str, logs: &[Name]) -> Result<bool> {
-    measure(bench, open_folder(bench.rt, folder)?, logs)?;
+    measure_at(bench, folder, logs)?;
     let [one, many, ..] = logs else {
         bail!("name");
     };
-    tear(open_folder(bench.rt, folder)?, file_of(*one))?;
+    tear_at(bench.rt, folder, file_of(*one))?;
     let repaired = show_open(bench, "open_repair", reopen(bench, folder, *one))?;
     let opened = show_open(bench, "open_closed", reopen(bench, folder, *many))?;
     Ok(repaired && opened)
+}
+
+// The measures over the disk of a folder.
+fn measure_at(bench: Bench<'_>, folder: &str, logs: &[Name]) -> Result<()> {
+    measure(bench, open_folder(bench.rt, folder)?, logs)
+}
+
+// Tears a file of a folder.
+fn tear_at(rt: &HostRuntime, folder: &str, file: FileName) -> Result<()> {
+    tear(open_folder(rt, folder)?, file)
 }
 
 // Writes the front of a frame after the end of a file, as a stop in the middle of a write leaves it.
