@@ -142,7 +142,7 @@ impl<'a, D: Disk + Drop> Client<'a, D> {
         Ok(spent)
     }
 
-    /// How many of these files are on the disk, and how many bytes they have.
+    /// How many bytes a file has, if it is on the disk.
     pub fn size(&mut self, file: FileName) -> Result<Option<u64>> {
         match self.hub.read_file(file) {
             Err(FileFault::Device) => bail!("folder"),
