@@ -145,9 +145,9 @@ fn order_of(text: &str) -> Option<Step<'_>> {
     if order == "blocks" {
         Some(Step::Blocks(others))
     } else if order == "file" {
-        file_of(others).map(Step::File)
+        Some(Step::File(file_of(others)?))
     } else if order == "fail" {
-        failure_of(others).map(Step::Fail)
+        Some(Step::Fail(failure_of(others)?))
     } else if text == "mend" {
         Some(Step::Mend)
     } else if text == "again" {
