@@ -1,13 +1,11 @@
 -- Scripts, and one line more.
-use Rattle.std.proofs.Common.{◌≡◌, ◌≤◌, ℕ, Bool, List, [], ◌∷◌, ◌++◌, Option, Some, None, Result, Ok, Err, OnOk, IfSome, IfNone, length, drop, slice_index_or, refl, sym, ap, subst, ◌∙◌, append_assoc, append-nil, arith, ◌⊎◌, inl, inr}
+use Rattle.std.proofs.Common.{◌≡◌, ◌≤◌, ℕ, List, [], ◌∷◌, ◌++◌, Option, Some, None, Result, Ok, Err, OnOk, IfSome, IfNone, length, drop, slice_index_or, refl, sym, ap, subst, ◌∙◌, append_assoc, append-nil, arith, ◌⊎◌, inl, inr}
 use Rattle.std.specs.Io.KnownBytes.{Appends, Keeps}
 use Rattle.dl_types.specs.declared.event.Event.{Event}
-use Rattle.dl_types.specs.declared.name.Base.{Base}
 use Rattle.dl_types.specs.declared.refusal.Fail.{Fail}
 use Rattle.dl_types.specs.declared.refusal.Fail.TheVariants.{Refused, OutOfMemory}
 use Rattle.dl_types.specs.declared.refusal.Refusal.{Refusal}
 use Rattle.dl_types.specs.declared.reply.Outcome.{Outcome}
-use Rattle.dl_types.specs.FileName.{Content}
 use Rattle.dl_hub.specs.View.{HubView}
 use Rattle.dl_hub.specs.Run.{IsRun}
 use Rattle.dl_types.specs.declared.name.ClientId.{ClientId}
@@ -15,6 +13,7 @@ use Rattle.dl_types.specs.declared.name.Name.{Name}
 use Rattle.dl_types.specs.declared.place.Place.{Place}
 use Rattle.dl_types.specs.declared.place.Place.TheVariants.{Start}
 use Rattle.std.proofs.KnownBytes.{Appends-trans, Appends-kept}
+use Rattle.dl_disk.specs.Disk.{DiskState}
 use Rattle.dl_app.specs.declared.lines.TheConstants.{LINE_LIMIT, LINES_LIMIT}
 use Rattle.dl_app.specs.declared.lines.NextLine.{NextLine}
 use Rattle.dl_app.specs.declared.lines.NextLine.TheVariants.{Read, TooLong}
@@ -70,29 +69,29 @@ pub has_first : (a b : Option (List ℕ)) (line : List ℕ) (next : NextLine) �
 has_first a b line next (inl is) read long = let some = has_next a b line (read is) in (line, some.0, some.1)
 has_first a b line next (inr is) read long = let some = long is in (some.0, some.1, some.2)
 
-module _ {D Z : Type 0} (content : D → Content) (honest : D → Bool) (faults : D → Base → ℕ) where
+module _ {D Z : Type 0} (state : D → DiskState) where
   -- one event has one outcome
   pub run_one : (old new : HubView D) (events : List (Event Z)) (outcomes : List (Outcome Z)) (before : ℕ) (event : Event Z) (outcome : Outcome Z)
       → events ≡ event ∷ [] → before ≡ 0 → length outcomes ≡ 1 → outcome ≡ slice_index_or outcomes 0 outcome
-      → IsRun content honest faults old new events (drop before outcomes) → IsRun content honest faults old new (event ∷ []) (outcome ∷ [])
+      → IsRun state old new events (drop before outcomes) → IsRun state old new (event ∷ []) (outcome ∷ [])
   run_one old new events [] before event outcome is none one at run = absurd (omega arith)
   run_one old new events (o ∷ []) before event outcome is none one at run =
-      subst (λ (p : Outcome Z). IsRun content honest faults old new (event ∷ []) (p ∷ [])) (sym at)
-      (subst (λ (es : List (Event Z)). IsRun content honest faults old new es (o ∷ [])) is
-      (subst (λ (n : ℕ). IsRun content honest faults old new events (drop n (o ∷ []))) none run))
+      subst (λ (p : Outcome Z). IsRun state old new (event ∷ []) (p ∷ [])) (sym at)
+      (subst (λ (es : List (Event Z)). IsRun state old new es (o ∷ [])) is
+      (subst (λ (n : ℕ). IsRun state old new events (drop n (o ∷ []))) none run))
   run_one old new events (o ∷ p ∷ os) before event outcome is none one at run = absurd (omega arith)
 
-module _ {D : Type 0} (content : D → Content) (honest : D → Bool) (faults : D → Base → ℕ) (known : D → Base → Bool) (Z : Type 0) where
+module _ {D : Type 0} (state : D → DiskState) (Z : Type 0) where
   -- a script and a line behind it are a script
-  pub script_more : (lines : List (List ℕ)) (old mid new : Stage D) (answers : List ℕ) (line answer : List ℕ) → IsScript content honest faults known Z lines old mid answers
-      → length line ≤ LINE_LIMIT → IsLine content honest faults known Z line mid new answer → IsScript content honest faults known Z (lines ++ line ∷ []) old new (answers ++ answer)
+  pub script_more : (lines : List (List ℕ)) (old mid new : Stage D) (answers : List ℕ) (line answer : List ℕ) → IsScript state Z lines old mid answers
+      → length line ≤ LINE_LIMIT → IsLine state Z line mid new answer → IsScript state Z (lines ++ line ∷ []) old new (answers ++ answer)
   script_more [] old mid new answers line answer script short step = (
     short,
     (
       new,
       answer,
       [],
-      subst (λ (s : Stage D). IsLine content honest faults known Z line s new answer) script.0 step,
+      subst (λ (s : Stage D). IsLine state Z line s new answer) script.0 step,
       (refl, refl),
       ap (λ (l : List ℕ). l ++ answer) script.1 ∙ sym (append-nil answer),
     ),
@@ -111,20 +110,20 @@ module _ {D : Type 0} (content : D → Content) (honest : D → Bool) (faults : 
       )
 
   -- lines and one behind them were run
-  pub runs_more : (lines : List (List ℕ)) (old mid new : Stage D) (line answer : List ℕ) (a b c : Option (List ℕ)) → Runs content honest faults known Z lines old mid a b
-      → length line ≤ LINE_LIMIT → IsLine content honest faults known Z line mid new answer → Appends b c answer → Runs content honest faults known Z (lines ++ line ∷ []) old new a c
+  pub runs_more : (lines : List (List ℕ)) (old mid new : Stage D) (line answer : List ℕ) (a b c : Option (List ℕ)) → Runs state Z lines old mid a b
+      → length line ≤ LINE_LIMIT → IsLine state Z line mid new answer → Appends b c answer → Runs state Z (lines ++ line ∷ []) old new a c
   runs_more lines old mid new line answer a b c runs short step written =
       (runs.0 ++ answer, script_more lines old mid new runs.0 line answer runs.1 short step, Appends-trans a b c runs.0 answer runs.2 written)
 
   -- a script that began where no place was given
   pub runs_on : (lines : List (List ℕ)) (old new : HubView D) (start places : ClientId → Name → Place) (a b c : Option (List ℕ)) → start ≡ (λ client log. Start)
-      → Runs content honest faults known Z lines (record { hub = old; places = start }) (record { hub = new; places = places }) a b → Keeps b c → RunsOn content honest faults known Z lines old new a c
+      → Runs state Z lines (record { hub = old; places = start }) (record { hub = new; places = places }) a b → Keeps b c → RunsOn state Z lines old new a c
   runs_on lines old new start places a b c is runs kept =
-      let at = subst (λ (p : ClientId → Name → Place). Runs content honest faults known Z lines (record { hub = old; places = p }) (record { hub = new; places = places }) a b) is runs in
+      let at = subst (λ (p : ClientId → Name → Place). Runs state Z lines (record { hub = old; places = p }) (record { hub = new; places = places }) a b) is runs in
       (places, (at.0, at.1, Appends-kept a b c at.0 at.2 kept))
 
   pub whole_on : {E : Type 0} (r : Result (Unit {0}) E) (old new : HubView D) (start places : ClientId → Name → Place) (input a b c : Option (List ℕ)) → start ≡ (λ client log. Start) → Keeps b c
-      → OnOk r ((lines : List (List ℕ)) × HasLines input lines × (length lines ≤ LINES_LIMIT) × Runs content honest faults known Z lines (record { hub = old; places = start }) (record { hub = new; places = places }) a b)
-      → OnOk r ((lines : List (List ℕ)) × HasLines input lines × (length lines ≤ LINES_LIMIT) × RunsOn content honest faults known Z lines old new a c)
+      → OnOk r ((lines : List (List ℕ)) × HasLines input lines × (length lines ≤ LINES_LIMIT) × Runs state Z lines (record { hub = old; places = start }) (record { hub = new; places = places }) a b)
+      → OnOk r ((lines : List (List ℕ)) × HasLines input lines × (length lines ≤ LINES_LIMIT) × RunsOn state Z lines old new a c)
   whole_on (Ok x) old new start places input a b c is kept h = (h.0, h.1, h.2, runs_on h.0 old new start places a b c is h.3 kept)
   whole_on (Err e) old new start places input a b c is kept h = tt

@@ -1,12 +1,11 @@
 -- What a script does and answers, line by line.
-use Rattle.std.specs.Prelude.{◌≡◌, ◌⊎◌, ◌+◌, ◌<◌, ◌≤◌, ℕ, List, [], ◌∷◌, ◌++◌, Bool, true, false, IsTrue, Option, Some, None, Result, Ok, Err, IfOk, codes, length}
+use Rattle.std.specs.Prelude.{◌≡◌, ◌⊎◌, ◌+◌, ◌<◌, ◌≤◌, ℕ, List, [], ◌∷◌, ◌++◌, true, false, IsTrue, Option, Some, None, Result, Ok, Err, IfOk, codes, length}
 use Rattle.std.specs.List.{flat_map}
 use Rattle.std.specs.FinMap as map
 use Rattle.std.specs.Io.KnownBytes.{Appends}
 use Rattle.dl_types.specs.declared.event.Event.{Event}
 use Rattle.dl_types.specs.declared.event.Event.TheVariants as event
 use Rattle.dl_types.specs.declared.file.FileName.{FileName}
-use Rattle.dl_types.specs.declared.name.Base.{Base}
 use Rattle.dl_types.specs.declared.name.ClientId.{ClientId}
 use Rattle.dl_types.specs.declared.name.Name.{Name}
 use Rattle.dl_types.specs.declared.place.Place.{Place}
@@ -14,9 +13,8 @@ use Rattle.dl_types.specs.declared.place.Place.TheVariants.{Start}
 use Rattle.dl_types.specs.declared.refusal.Refusal.{Refusal}
 use Rattle.dl_types.specs.declared.refusal.Refusal.TheVariants.{DeviceFault}
 use Rattle.dl_types.specs.declared.reply.Outcome.{Outcome}
-use Rattle.dl_types.specs.FileName.{Content}
 use Rattle.dl_disk.specs.Acts.{ActsOn}
-use Rattle.dl_disk.specs.Disk.{Rises}
+use Rattle.dl_disk.specs.Disk.{DiskState, Rises}
 use Rattle.dl_hub.specs.declared.fault.FileFault.{FileFault}
 use Rattle.dl_hub.specs.declared.fault.FileFault.TheVariants as fault
 use Rattle.dl_hub.specs.View.{HubView}
@@ -46,26 +44,26 @@ IsShown file (Ok None) text = text ≡ codes "no file"
 IsShown file (Err fault.Device) text = IsRefusalText (DeviceFault file) text
 IsShown file (Err fault.OutOfMemory) text = ⊥
 
-module _ {D : Type 0} (content : D → Content) (honest : D → Bool) (faults : D → Base → ℕ) (known : D → Base → Bool) where
+module _ {D : Type 0} (state : D → DiskState) where
   -- a file was read: the logs, their owners, what waits and the files stay, and what was read is what the file has
   pub record HasRead (file : FileName) (old new : HubView D) (shown : Result (Option (List ℕ)) FileFault) : Type 0 where
     pub logs : new.logs ≡ old.logs
     pub cache : new.cache ≡ old.cache
     pub owners : new.owners ≡ old.owners
     pub opened : new.opened ≡ old.opened
-    pub files : IsTrue (honest new.disk) → content new.disk ≡ content old.disk
-    pub acts : ActsOn content honest faults known file.base old.disk new.disk
-    pub text : IsTrue (honest new.disk) → IfOk shown (λ text. text ≡ map.get (content old.disk) file)
-    pub fault : shown ≡ Err fault.Device → Rises (faults old.disk file.base) (faults new.disk file.base)
+    pub files : IsTrue (state new.disk).honest → (state new.disk).content ≡ (state old.disk).content
+    pub acts : ActsOn file.base (state old.disk) (state new.disk)
+    pub text : IsTrue (state new.disk).honest → IfOk shown (λ text. text ≡ map.get (state old.disk).content file)
+    pub fault : shown ≡ Err fault.Device → Rises ((state old.disk).faults file.base) ((state new.disk).faults file.base)
 
   -- a file is shown
   abbrev pub ShowsFile : FileName → HubView D → HubView D → List ℕ → Type 0
   ShowsFile file old new answer = (shown : Result (Option (List ℕ)) FileFault) × HasRead file old new shown × IsLineOf (IsShown file shown) answer
 
-module _ {D : Type 0} (content : D → Content) (honest : D → Bool) (faults : D → Base → ℕ) (known : D → Base → Bool) (Z : Type 0) where
+module _ {D : Type 0} (state : D → DiskState) (Z : Type 0) where
   -- an event is run by itself, and its reply is the answer
   pub record IsAnswered (event : Event Z) (outcome : Outcome Z) (old new : HubView D) (answer : List ℕ) : Type 0 where
-    pub run : IsRun content honest faults old new (event ∷ []) (outcome ∷ [])
+    pub run : IsRun state old new (event ∷ []) (outcome ∷ [])
     pub line : IsLineOf (IsReplyText outcome.reply) answer
 
   -- a call that is refused before it is an event changes nothing
@@ -81,7 +79,7 @@ module _ {D : Type 0} (content : D → Content) (honest : D → Bool) (faults : 
   abbrev pub IsDone : Command → Stage D → Stage D → List ℕ → Type 0
   IsDone (Call client log c) old new answer = IsCalled (refusal_in c) client log (event_in client log c (old.places client log)) old new answer
   IsDone (Exit client) old new answer = IsStepped (event.Exit client) old new answer
-  IsDone (File file) old new answer = (new.places ≡ old.places) × ShowsFile content honest faults known file old.hub new.hub answer
+  IsDone (File file) old new answer = (new.places ≡ old.places) × ShowsFile state file old.hub new.hub answer
   IsDone Flush old new answer = IsStepped event.Flush old new answer
 
   -- what a line does: nothing, or what its command does

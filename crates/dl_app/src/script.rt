@@ -34,12 +34,12 @@ pub fn run_script<R: BufRead, W: Write, D: Disk + Drop, A: Allocator + Copy>(
     hub: &mut Hub<D, A>,
 ) -> Result<(), ScriptFault>
     ensures whole { OnOk result ((lines : List (List ℕ)) × HasLines (R.remaining input.old) lines × (length lines ≤ LINES_LIMIT)
-        × RunsOn D.content D.honest D.faults D.known A lines hub.old hub.new (W.contents output.old) (W.contents output.new)) }
+        × RunsOn D.state A lines hub.old hub.new (W.contents output.old) (W.contents output.new)) }
     ensures bad_line { (k : ℕ) → result ≡ Err (ScriptFault.BadLine k) → (before : List (List ℕ)) × (line : List ℕ) × (others : List (List ℕ))
         × HasLines (R.remaining input.old) (before ++ line ∷ others) × (length before ≤ LINES_LIMIT) × (k ≡ length before + 1) × IsBadLine k line
-        × RunsOn D.content D.honest D.faults D.known A before hub.old hub.new (W.contents output.old) (W.contents output.new) }
+        × RunsOn D.state A before hub.old hub.new (W.contents output.old) (W.contents output.new) }
     ensures unread { result ≡ Err ScriptFault.Read → (before : List (List ℕ)) × (others : List (List ℕ)) × HasLines (R.remaining input.old) (before ++ others) × (length before ≤ LINES_LIMIT)
-        × RunsOn D.content D.honest D.faults D.known A before hub.old hub.new (W.contents output.old) (W.contents output.new) }
+        × RunsOn D.state A before hub.old hub.new (W.contents output.old) (W.contents output.new) }
 {
     let mut session = Session {
         alloc,
@@ -72,12 +72,12 @@ impl<A: Allocator + Copy> Session<A> {
         hub: &mut Hub<D, A>,
     ) -> Result<(), ScriptFault>
         ensures whole { OnOk result ((lines : List (List ℕ)) × HasLines (R.remaining input.old) lines × (length lines ≤ LINES_LIMIT)
-            × Runs D.content D.honest D.faults D.known A lines (stage_of hub.old self.old) (stage_of hub.new self.new) (W.contents output.old) (W.contents output.new)) }
+            × Runs D.state A lines (stage_of hub.old self.old) (stage_of hub.new self.new) (W.contents output.old) (W.contents output.new)) }
         ensures bad_line { (k : ℕ) → result ≡ Err (ScriptFault.BadLine k) → (before : List (List ℕ)) × (line : List ℕ) × (others : List (List ℕ))
             × HasLines (R.remaining input.old) (before ++ line ∷ others) × (length before ≤ LINES_LIMIT) × (k ≡ length before + 1) × IsBadLine k line
-            × Runs D.content D.honest D.faults D.known A before (stage_of hub.old self.old) (stage_of hub.new self.new) (W.contents output.old) (W.contents output.new) }
+            × Runs D.state A before (stage_of hub.old self.old) (stage_of hub.new self.new) (W.contents output.old) (W.contents output.new) }
         ensures unread { result ≡ Err ScriptFault.Read → (before : List (List ℕ)) × (others : List (List ℕ)) × HasLines (R.remaining input.old) (before ++ others) × (length before ≤ LINES_LIMIT)
-            × Runs D.content D.honest D.faults D.known A before (stage_of hub.old self.old) (stage_of hub.new self.new) (W.contents output.old) (W.contents output.new) }
+            × Runs D.state A before (stage_of hub.old self.old) (stage_of hub.new self.new) (W.contents output.old) (W.contents output.new) }
     {
         let mut line = Vec::new(self.alloc);
         for number in 1..=LINES_LIMIT {
@@ -101,7 +101,7 @@ impl<A: Allocator + Copy> Session<A> {
         output: &mut W,
         hub: &mut Hub<D, A>,
     ) -> Result<(), ScriptFault>
-        ensures done { OnOk result ((answer : List ℕ) × IsLine D.content D.honest D.faults D.known A line.now (stage_of hub.old self.old) (stage_of hub.new self.new) answer
+        ensures done { OnOk result ((answer : List ℕ) × IsLine D.state A line.now (stage_of hub.old self.old) (stage_of hub.new self.new) answer
             × Appends (W.contents output.old) (W.contents output.new) answer) }
         ensures bad { (k : ℕ) → result ≡ Err (ScriptFault.BadLine k) → (k ≡ number) × HasNoForm line.now × (stage_of hub.new self.new ≡ stage_of hub.old self.old) × (output.new ≡ output.old) }
         ensures read { result ≢ Err ScriptFault.Read }
@@ -127,7 +127,7 @@ impl<A: Allocator + Copy> Session<A> {
         hub: &mut Hub<D, A>,
     ) -> Result<(), ScriptFault>
         ensures done { OnOk result ((answer : List ℕ)
-            × IsCalled D.content D.honest D.faults D.known A (refusal_in call.entry) client log (event_in client log call.entry (place_of self.old.places client log)) (stage_of hub.old self.old) (stage_of hub.new self.new) answer
+            × IsCalled D.state A (refusal_in call.entry) client log (event_in client log call.entry (place_of self.old.places client log)) (stage_of hub.old self.old) (stage_of hub.new self.new) answer
             × Appends (W.contents output.old) (W.contents output.new) answer) }
         ensures fault { IfErr result IsAnswerFault }
     {
@@ -150,7 +150,7 @@ impl<A: Allocator + Copy> Session<A> {
         output: &mut W,
         hub: &mut Hub<D, A>,
     ) -> Result<(), ScriptFault>
-        ensures done { OnOk result ((answer : List ℕ) × IsCalled D.content D.honest D.faults D.known A None client log event (stage_of hub.old self.old) (stage_of hub.new self.new) answer
+        ensures done { OnOk result ((answer : List ℕ) × IsCalled D.state A None client log event (stage_of hub.old self.old) (stage_of hub.new self.new) answer
             × Appends (W.contents output.old) (W.contents output.new) answer) }
         ensures fault { IfErr result IsAnswerFault }
     {
@@ -171,7 +171,7 @@ impl<A: Allocator + Copy> Session<A> {
         output: &mut W,
         hub: &mut Hub<D, A>,
     ) -> Result<(), ScriptFault>
-        ensures done { OnOk result ((answer : List ℕ) × IsStepped D.content D.honest D.faults D.known A event (stage_of hub.old self.old) (stage_of hub.new self.new) answer
+        ensures done { OnOk result ((answer : List ℕ) × IsStepped D.state A event (stage_of hub.old self.old) (stage_of hub.new self.new) answer
             × Appends (W.contents output.old) (W.contents output.new) answer) }
         ensures fault { IfErr result IsAnswerFault }
     {
@@ -188,7 +188,7 @@ fn show_file<W: Write, D: Disk + Drop, A: Allocator + Copy>(
     output: &mut W,
     hub: &mut Hub<D, A>,
 ) -> Result<(), ScriptFault>
-    ensures shown { OnOk result ((answer : List ℕ) × ShowsFile D.content D.honest D.faults D.known file hub.old hub.new answer × Appends (W.contents output.old) (W.contents output.new) answer) }
+    ensures shown { OnOk result ((answer : List ℕ) × ShowsFile D.state file hub.old hub.new answer × Appends (W.contents output.old) (W.contents output.new) answer) }
     ensures fault { IfErr result IsAnswerFault }
 {
     match hub.read_file(file) {

@@ -5,6 +5,14 @@ use Rattle.dl_types.specs.declared.name.Base.{Base}
 use Rattle.dl_types.specs.declared.file.FileName.{FileName}
 use Rattle.dl_types.specs.FileName.{Content}
 
+-- the files that are there with their bytes; whether what was read was what had been written, so far; the faults so far, by base;
+-- and which bases have a place where theirs are counted
+pub record DiskState : Type 0 where
+  pub content : Content
+  pub honest : Bool
+  pub faults : Base → ℕ
+  pub known : Base → Bool
+
 -- a count went up, or stands at the greatest number, from where it cannot
 abbrev pub Rises : ℕ → ℕ → Type 0
 Rises old new = (old < new) ⊎ (2 ^ 64 ≤ new + 1)
@@ -21,16 +29,16 @@ pub record Counts {T E : Type 0} (base : Base) (old new : Base → ℕ) (result 
   pub others : (b : Base) → b ≢ base → new b ≡ old b
 
 -- what each call on files of one base leaves, whatever it answers
-pub record IsCallOn {D T E : Type 0} (honest : D → Bool) (faults : D → Base → ℕ) (known : D → Base → Bool) (base : Base) (old new : D) (result : Result T E) : Type 0 where
-  pub knows : (b : Base) → IsTrue (known old b) → IsTrue (known new b)
-  pub counts : Counts base (faults old) (faults new) result
-  pub stayed : IsTrue (honest new) → IsTrue (honest old)
+pub record IsCallOn {T E : Type 0} (base : Base) (old new : DiskState) (result : Result T E) : Type 0 where
+  pub knows : (b : Base) → IsTrue (old.known b) → IsTrue (new.known b)
+  pub counts : Counts base old.faults new.faults result
+  pub stayed : IsTrue new.honest → IsTrue old.honest
 
 -- what a call leaves that counts no fault
-pub record IsUncounted {D : Type 0} (honest : D → Bool) (faults : D → Base → ℕ) (known : D → Base → Bool) (old new : D) : Type 0 where
-  pub knows : (b : Base) → IsTrue (known old b) → IsTrue (known new b)
-  pub counts : (b : Base) → faults new b ≡ faults old b
-  pub stayed : IsTrue (honest new) → IsTrue (honest old)
+pub record IsUncounted (old new : DiskState) : Type 0 where
+  pub knows : (b : Base) → IsTrue (old.known b) → IsTrue (new.known b)
+  pub counts : (b : Base) → new.faults b ≡ old.faults b
+  pub stayed : IsTrue new.honest → IsTrue old.honest
 
 -- the bytes of a file, and none where it is not there
 abbrev pub text_at : Content → FileName → List ℕ
@@ -40,11 +48,11 @@ text_at content file = unwrap_or (map.get content file) []
 abbrev pub written : List ℕ → ℕ → List ℕ → List ℕ
 written old at bytes = take at old ++ bytes ++ drop (at + length bytes) old
 
--- after a write that failed: the same outside its range, up to the old end
+-- after a write that failed: the same outside its range up to the old end, and anything past it
 pub record Torn (old : List ℕ) (at n : ℕ) (new : List ℕ) : Type 0 where
   pub no_shorter : length old ≤ length new
   pub before : take at new ≡ take at old
-  pub after : take (length old) (drop (at + n) new) ≡ drop (at + n) old
+  pub after : drop (at + n) (take (length old) new) ≡ drop (at + n) old
 
 -- no file is still none, and a file is torn at most
 abbrev pub TornAt : Option (List ℕ) → ℕ → ℕ → Option (List ℕ) → Type 0

@@ -15,7 +15,7 @@ returns-in-Ok-Some-clause-shown g c =
     let bytes = c.in-Ok-Some.bytes in
     let old = g.W.Write.contents c.args.output.now in
     let new = g.W.Write.contents c.show_bytes.new.output in
-    let read : HasRead D.content D.honest D.faults D.known file c.args.hub.now c.read_file.new.self (Ok (Some bytes.items)) = record {
+    let read : HasRead D.state file c.args.hub.now c.read_file.new.self (Ok (Some bytes.items)) = record {
       logs = c.read_file.ensures.logs;
       cache = c.read_file.ensures.cache;
       owners = c.read_file.ensures.owners;
@@ -26,7 +26,7 @@ returns-in-Ok-Some-clause-shown g c =
       fault = λ is. let bad : ⊥ = cc in absurd bad;
     } in
     let value : c.as_slice.result.now ≡ bytes.items = cc (c.as_slice.ensures.value, c.in-Ok-Some.bytes-is) in
-    answered c.show_bytes.result (ShowsFile D.content D.honest D.faults D.known file c.args.hub.now c.read_file.new.self) (Appends old new) (flat_map hex bytes.items ++ 10 ∷ [])
+    answered c.show_bytes.result (ShowsFile D.state file c.args.hub.now c.read_file.new.self) (Appends old new) (flat_map hex bytes.items ++ 10 ∷ [])
     (Ok (Some bytes.items), read, (flat_map hex bytes.items, refl, refl))
     (subst (λ (l : List ℕ). OnOk c.show_bytes.result (Appends old new (flat_map hex l ++ 10 ∷ []))) value c.show_bytes.ensures.shown)
 
@@ -34,7 +34,7 @@ pub returns-in-Ok-None-clause-shown : goal.returns-in-Ok-None-clause-shown
 returns-in-Ok-None-clause-shown g c =
     let D = g.D.Disk in
     let file = c.args.file in
-    let read : HasRead D.content D.honest D.faults D.known file c.args.hub.now c.read_file.new.self (Ok None) = record {
+    let read : HasRead D.state file c.args.hub.now c.read_file.new.self (Ok None) = record {
       logs = c.read_file.ensures.logs;
       cache = c.read_file.ensures.cache;
       owners = c.read_file.ensures.owners;
@@ -44,7 +44,7 @@ returns-in-Ok-None-clause-shown g c =
       text = λ h. sym (ap (option_map (λ v. v.items)) c.in-Ok-None.field-0-is) ∙ c.in-Ok-None.ensures.text h;
       fault = λ is. let bad : ⊥ = cc in absurd bad;
     } in
-    answered c.write_answer.result (ShowsFile D.content D.honest D.faults D.known file c.args.hub.now c.read_file.new.self)
+    answered c.write_answer.result (ShowsFile D.state file c.args.hub.now c.read_file.new.self)
     (Appends (g.W.Write.contents c.args.output.now) (g.W.Write.contents c.write_answer.new.output)) (codes "no file" ++ 10 ∷ [])
     (Ok None, read, (codes "no file", refl, refl)) c.write_answer.ensures.written
 
@@ -53,7 +53,7 @@ pub returns-in_ok-put_refusal-in-Err-Device-clause-shown :
 returns-in_ok-put_refusal-in-Err-Device-clause-shown g c =
     let D = g.D.Disk in
     let file = c.args.file in
-    let read : HasRead D.content D.honest D.faults D.known file c.args.hub.now c.read_file.new.self (Err Device) = record {
+    let read : HasRead D.state file c.args.hub.now c.read_file.new.self (Err Device) = record {
       logs = c.read_file.ensures.logs;
       cache = c.read_file.ensures.cache;
       owners = c.read_file.ensures.owners;
@@ -64,6 +64,6 @@ returns-in_ok-put_refusal-in-Err-Device-clause-shown g c =
       fault = λ is. c.in-Err-Device.ensures.fault (ap Err c.in-Err-Device.field-0-is);
     } in
     let line = subst (IsLineOf (IsShown file (Err Device))) (sym c.as_slice-in-Err-Device.ensures.value) c.in_ok-put_refusal-in-Err-Device.ensures.line in
-    answered c.write_answer-in-Err-Device.result (ShowsFile D.content D.honest D.faults D.known file c.args.hub.now c.read_file.new.self)
+    answered c.write_answer-in-Err-Device.result (ShowsFile D.state file c.args.hub.now c.read_file.new.self)
     (Appends (g.W.Write.contents c.args.output.now) (g.W.Write.contents c.write_answer-in-Err-Device.new.output)) c.as_slice-in-Err-Device.result.now
     (Err Device, read, line) c.write_answer-in-Err-Device.ensures.written

@@ -20,8 +20,8 @@ returns-in-Ok-clause-done g c =
     let event = event_in {Z = Z} c.args.client c.args.log c.args.call (place_of c.args.self.now.places c.args.client c.args.log) in
     let is : refusal_in c.args.call ≡ None = called_is (refusal_in c.args.call) c.in-Ok.event c.in-Ok.ensures.refused in
     let same : c.in-Ok.event ≡ event = c.in-Ok.ensures.event in
-    subst (λ (o : Option Refusal). OnOk c.run_event.result ((answer : List ℕ) × IsCalled D.content D.honest D.faults D.known Z o c.args.client c.args.log event old new answer × written answer)) (sym is)
-    (subst (λ (e : Event Z). OnOk c.run_event.result ((answer : List ℕ) × IsCalled D.content D.honest D.faults D.known Z None c.args.client c.args.log e old new answer × written answer)) same
+    subst (λ (o : Option Refusal). OnOk c.run_event.result ((answer : List ℕ) × IsCalled D.state Z o c.args.client c.args.log event old new answer × written answer)) (sym is)
+    (subst (λ (e : Event Z). OnOk c.run_event.result ((answer : List ℕ) × IsCalled D.state Z None c.args.client c.args.log e old new answer × written answer)) same
     c.run_event.ensures.done)
 
 pub returns-in_ok-put_refusal-in-Err-Refused-clause-done :
@@ -34,7 +34,7 @@ returns-in_ok-put_refusal-in-Err-Refused-clause-done g c =
     let old = stage_of c.args.hub.now c.args.self.now in
     let event = event_in {Z = g.row.A.Denot} c.args.client c.args.log c.args.call (place_of c.args.self.now.places c.args.client c.args.log) in
     let line = subst (IsLineOf (IsRefusalText refusal)) (sym c.as_slice.ensures.value) c.in_ok-put_refusal-in-Err-Refused.ensures.line in
-    answered c.write_answer.result (IsCalled D.content D.honest D.faults D.known g.row.A.Denot (refusal_in c.args.call) c.args.client c.args.log event old old)
+    answered c.write_answer.result (IsCalled D.state g.row.A.Denot (refusal_in c.args.call) c.args.client c.args.log event old old)
     (Appends (g.W.Write.contents c.args.output.now) (g.W.Write.contents c.write_answer.new.output)) c.as_slice.result.now
-    (subst (λ (o : Option Refusal). IsCalled D.content D.honest D.faults D.known g.row.A.Denot o c.args.client c.args.log event old old c.as_slice.result.now) (sym is) (refl, line))
+    (subst (λ (o : Option Refusal). IsCalled D.state g.row.A.Denot o c.args.client c.args.log event old old c.as_slice.result.now) (sym is) (refl, line))
     c.write_answer.ensures.written

@@ -34,8 +34,8 @@ returns-in_err-run_line-in-Read-clause-bad_line g c = λ k e.
     (c.in_ok-next_line.ensures.read (ap Ok c.in-Read.is)) in
     let next = has_next _ _ line taken in
     let old = stage_of c.args.hub.now c.args.self.now in
-    let runs = subst (λ (s : Stage g.row.D.Denot). Runs D.content D.honest D.faults D.known g.row.A.Denot so_far.0 old s (g.W.Write.contents c.args.output.now) (g.W.Write.contents c.run_line.new.output)) (sym bad.2)
-    (subst (λ (o : g.row.W.Denot). Runs D.content D.honest D.faults D.known g.row.A.Denot so_far.0 old (stage_of c.loop-number.hub c.loop-number.self) (g.W.Write.contents c.args.output.now) (g.W.Write.contents o)) (sym bad.3) so_far.3) in
+    let runs = subst (λ (s : Stage g.row.D.Denot). Runs D.state g.row.A.Denot so_far.0 old s (g.W.Write.contents c.args.output.now) (g.W.Write.contents c.run_line.new.output)) (sym bad.2)
+    (subst (λ (o : g.row.W.Denot). Runs D.state g.row.A.Denot so_far.0 old (stage_of c.loop-number.hub c.loop-number.self) (g.W.Write.contents c.args.output.now) (g.W.Write.contents o)) (sym bad.3) so_far.3) in
     (so_far.0, line, next.0, has_all _ _ so_far.0 (line ∷ next.0) so_far.1 next.1, few, bad.0 ∙ sym so_far.2, inr (inl bad.1), runs)
 
 pub loop-number-preserved : goal.loop-number-preserved
@@ -47,7 +47,7 @@ loop-number-preserved g c =
     (c.in_ok-next_line.ensures.read (ap Ok c.in-Read.is)) in
     let short : length line ≤ LINE_LIMIT = omega (arith, c.as_slice.ensures.len, c.in_ok-next_line.ensures.bounded (ap Ok c.in-Read.is)) in
     let step = c.in_ok-run_line-in-Read.ensures.done in
-    let runs = runs_more D.content D.honest D.faults D.known g.row.A.Denot so_far.0 (stage_of c.args.hub.now c.args.self.now) (stage_of c.loop-number.hub c.loop-number.self) (stage_of c.run_line.new.hub c.run_line.new.self)
+    let runs = runs_more D.state g.row.A.Denot so_far.0 (stage_of c.args.hub.now c.args.self.now) (stage_of c.loop-number.hub c.loop-number.self) (stage_of c.run_line.new.hub c.run_line.new.self)
     line step.0 (g.W.Write.contents c.args.output.now) (g.W.Write.contents c.loop-number.output) (g.W.Write.contents c.run_line.new.output) so_far.3 short step.1 step.2 in
     (so_far.0 ++ line ∷ [], takes_more _ _ _ so_far.0 (line ∷ []) so_far.1 taken, omega (arith, so_far.2, length-append so_far.0 (line ∷ [])), runs)
 

@@ -8,4 +8,4 @@ use Rattle.dl_app.proofs.script.Session.run_lines.Given as goal
 abbrev pub invariant-loop-number : goal.invariant-loop-number
 invariant-loop-number g l =
     (lines : List (List ℕ)) × TakesLines (g.R.Read.remaining l.fn.input) (g.R.Read.remaining l.input) lines × (length lines + 1 ≡ l.number)
-    × Runs g.D.Disk.content g.D.Disk.honest g.D.Disk.faults g.D.Disk.known g.row.A.Denot lines (stage_of l.fn.hub l.fn.self) (stage_of l.hub l.self) (g.W.Write.contents l.fn.output) (g.W.Write.contents l.output)
+    × Runs g.D.Disk.state g.row.A.Denot lines (stage_of l.fn.hub l.fn.self) (stage_of l.hub l.self) (g.W.Write.contents l.fn.output) (g.W.Write.contents l.output)

@@ -14,7 +14,7 @@ returns-clause-done g c =
     let line = subst (IsLineOf (IsReplyText outcome.reply)) (sym c.as_slice.ensures.value) c.in_ok-put_outcome.ensures.line in
     let old = stage_of c.args.hub.now c.args.self.now in
     let new : Stage g.row.D.Denot = record { hub = c.step-outcome.new.self; places = place_of c.args.self.now.places } in
-    answered c.write_answer.result (IsStepped D.content D.honest D.faults D.known g.row.A.Denot c.args.event old new)
+    answered c.write_answer.result (IsStepped D.state g.row.A.Denot c.args.event old new)
     (Appends (g.W.Write.contents c.args.output.now) (g.W.Write.contents c.write_answer.new.output)) c.as_slice.result.now
     (outcome, record { run = (c.step-outcome.new.self, c.step-outcome.ensures.private, refl); line = line }, refl)
     c.write_answer.ensures.written
