@@ -39,13 +39,13 @@ pub enum Command<'a> {
 #[derive(Clone, Copy)]
 pub enum Call<'a> {
     Open(OpenArgs),
-    /// The words behind the name, each of which writes an item.
+    /// The words after the name, each of which writes an item.
     Log(Words<'a>),
     Chunk { from: Start, most: u64 },
     Close,
 }
 
-/// Where a chunk is to begin.
+/// The place at which a chunk is to begin.
 #[derive(Clone, Copy)]
 pub enum Start {
     /// At the first item.
@@ -61,7 +61,7 @@ pub fn is_passed_over(line: &[u8]) -> bool
     matches!(line.first(), None | Some(b'#'))
 }
 
-/// Reads a line. One of any other form is none.
+/// Parses a line, or returns `None` for one of any other form.
 pub fn command_of(line: &[u8]) -> Option<Command<'_>>
     ensures form { IfSome result (λ command. IsForm (words_of line.now) command) }
     ensures none { IfNone result ((command : Command) → IsForm (words_of line.now) command → ⊥) }
@@ -77,7 +77,7 @@ pub fn command_of(line: &[u8]) -> Option<Command<'_>>
     }
 }
 
-// The file that is named behind the first word.
+// The file that is named after the first word.
 fn file_of(mut words: Words<'_>) -> Option<Command<'_>>
     ensures form { IfSome result (λ command. IsForm (codes "file" ∷ words_left words.entry) command) }
     ensures none { IfNone result ((command : Command) → IsForm (codes "file" ∷ words_left words.entry) command → ⊥) }
@@ -103,7 +103,7 @@ fn client_line<'a>(first: &[u8], mut words: Words<'a>) -> Option<Command<'a>>
     Some(Command::Call { client, log, call })
 }
 
-// The call of this verb with the words behind the name of the log.
+// The call of this verb with the words after the name of the log.
 fn verb_of<'a>(verb: &[u8], words: Words<'a>) -> Option<Call<'a>>
     ensures form { IfSome result (λ call. (verb.now ≡ call_word call) × GivesCall (words_left words.entry) call) }
     ensures none { IfNone result ((call : Call) → verb.now ≡ call_word call → GivesCall (words_left words.entry) call → ⊥) }
@@ -144,7 +144,7 @@ fn are_items(words: Words<'_>) -> bool
     true
 }
 
-// Where a chunk is to begin, and how many items it may have.
+// The place at which a chunk is to begin, and how many items it may have.
 fn chunk_of(mut words: Words<'_>) -> Option<Call<'_>>
     ensures form { IfSome result (λ call. (call_word call ≡ codes "chunk") × GivesCall (words_left words.entry) call) }
     ensures none { IfNone result ((from : Start) (most : ℕ) → GivesChunk (words_left words.entry) from most → ⊥) }

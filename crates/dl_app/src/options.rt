@@ -51,7 +51,7 @@ impl Settings {
         }
     }
 
-    // These settings and one more. None where one of its sort is among them.
+    // These settings and one more, or `None` if one of its sort is among them.
     fn with(self, setting: Setting) -> Option<Settings>
         ensures { result ≡ (if is_set self setting then None else Some (also_set self setting)) }
     {
@@ -109,7 +109,7 @@ pub fn args_in(kind: Kind, options: Words<'_>) -> Option<OpenArgs>
     Some(settings_in(options)?.args(kind))
 }
 
-// The settings of options. None where a word is none, or where two are of one sort.
+// The settings of options, or `None` if a word is no option or two are of one sort.
 fn settings_in(options: Words<'_>) -> Option<Settings>
     ensures form { IfSome result (λ all. (settings : List Setting) × GiveSettings (words_left options.entry) settings × (all ≡ fold also_set no_settings settings)) }
     ensures none { IfNone result ((settings : List Setting) → GiveSettings (words_left options.entry) settings → ⊥) }

@@ -33,7 +33,7 @@ impl<A: Allocator + Copy> Places<A> {
         }
     }
 
-    /// Where the client goes on in the log: at its start, where no place was given.
+    /// The place at which the client goes on in the log: the start, if no place was given.
     pub fn next(&self, client: ClientId, log: Name) -> Place
         ensures { result ≡ place_of self.now client log }
     {
@@ -43,7 +43,7 @@ impl<A: Allocator + Copy> Places<A> {
         }
     }
 
-    /// Keeps the place behind the items that a reply gave to a client, if it gave some.
+    /// Keeps the place after the items that a reply gave to a client, if it gave some.
     pub fn keep_after(
         &mut self,
         client: ClientId,

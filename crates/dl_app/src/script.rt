@@ -25,8 +25,8 @@ const SHOWN_BYTES: usize = 4_096;
 
 /// Runs a script on a hub and writes its answers, up to its end or the first fault.
 ///
-/// What was answered before a fault is written. Where that fails, the fault is the write's. After a write that failed, and
-/// after want of memory, the contract leaves open which lines were run.
+/// What was answered before a fault is written. If that fails, the fault is the write's. After a write that failed, and
+/// if memory was refused, the contract leaves open which lines were run.
 pub fn run_script<R: BufRead, W: Write, D: Disk + Drop, A: Allocator + Copy>(
     alloc: A,
     input: &mut R,

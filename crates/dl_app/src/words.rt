@@ -41,7 +41,7 @@ impl<'a> Iterator for Words<'a> {
     }
 }
 
-// Where the first space is.
+// The position of the first space.
 fn first_space(text: &[u8]) -> Option<usize>
     ensures value { result ≡ position (λ b. b == 32) text.now }
     ensures within { IfSome result (λ end. end < length text.now) }
@@ -49,7 +49,7 @@ fn first_space(text: &[u8]) -> Option<usize>
     text.iter().position(|byte| *byte == b' ')
 }
 
-// The first word, and the text behind its space where it has one.
+// The first word, and the text after its space if it has one.
 #[tactic(auto, using(crate::proofs::Spaces::no_space))]
 fn split_word(text: &[u8]) -> (&[u8], Option<&[u8]>)
     ensures { words_of text.now ≡ result.0.now ∷ words_in result.1 }

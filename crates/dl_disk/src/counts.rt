@@ -12,7 +12,7 @@ use std::hash::{BuildHasherDefault, FoldHasher};
 /// A count for each base that is known.
 pub(crate) type FaultCounts<A> = IndexMap<Base, u64, BuildHasherDefault<FoldHasher>, A>;
 
-/// Takes the place of a base's count, where it has none.
+/// Starts counting the faults of a base, unless they are counted already.
 pub(crate) fn know<A: Allocator + Copy>(
     counts: &mut FaultCounts<A>,
     base: Base,

@@ -23,7 +23,7 @@ pub trait Disk {
         ensures device { IsUncounted (state self.old) (state self.new) }
         ensures content { (state self.new).content ≡ (state self.old).content };
 
-    /// The length of a file in bytes, or None where it is not there.
+    /// The length of a file in bytes, or `None` if there is no such file.
     fn size(&mut self, file: FileName) -> Result<Option<u64>, Fault>
         requires { IsTrue ((state self.old).known file.base) }
         ensures device { IsCallOn file.base (state self.old) (state self.new) result }
@@ -38,7 +38,7 @@ pub trait Disk {
         ensures within { IfOk result (λ n. n ≤ length buffer.old) }
         ensures read { IsTrue (state self.new).honest → IfOk result (λ n. take n buffer.new ≡ take (length buffer.old) (drop at (text_at (state self.old).content file))) };
 
-    /// Writes over the bytes from an offset on, and behind the end. An offset behind the end is a fault.
+    /// Writes over the bytes from an offset on, and past the end. An offset past the end is a fault.
     fn write_at(&mut self, file: FileName, at: u64, bytes: &[u8]) -> Result<(), Fault>
         requires { IsTrue ((state self.old).known file.base) }
         ensures device { IsCallOn file.base (state self.old) (state self.new) result }
@@ -70,7 +70,7 @@ pub trait Disk {
             × ((state self.new).content ≡ map.insert (map.remove (state self.old).content from) to text)) }
         ensures err { IsTrue (state self.new).honest → OnErr result ((state self.new).content ≡ (state self.old).content) };
 
-    /// Removes a file. Where there is none it is done.
+    /// Removes a file. It succeeds if there is no such file.
     fn remove(&mut self, file: FileName) -> Result<(), Fault>
         requires { IsTrue ((state self.old).known file.base) }
         ensures device { IsCallOn file.base (state self.old) (state self.new) result }

@@ -38,7 +38,7 @@ pub(crate) fn lay<A: Allocator + Copy>(
     Ok(())
 }
 
-// Writes over what is there and behind the end. What can fail comes first.
+// Writes over what is there and past the end. What can fail comes first.
 fn write_over<A: Allocator>(
     text: &mut Vec<u8, A>,
     at: usize,
@@ -54,7 +54,7 @@ fn write_over<A: Allocator>(
     Ok(())
 }
 
-/// Writes into a file. Where it fails, nothing has changed.
+/// Writes into a file. If it fails, nothing has changed.
 pub(crate) fn write<A: Allocator>(
     files: &mut Files<A>,
     file: FileName,
@@ -119,7 +119,7 @@ pub(crate) fn rename<A: Allocator + Copy>(
     Ok(())
 }
 
-/// Removes a file, where it is there. The others may change places.
+/// Removes a file, if there is one. The others may change places.
 pub(crate) fn remove<A: Allocator>(files: &mut Files<A>, file: FileName)
     ensures { content_of files.new.entries ≡ map.remove (content_of files.old.entries) file }
 {

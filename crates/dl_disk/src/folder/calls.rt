@@ -36,7 +36,7 @@ impl<R: Files<File = File> + AllocGlobal + Clone + Drop> Folder<R> {
         })
     }
 
-    // Where a file stands.
+    // The path of a file.
     fn path_of(&self, file: FileName) -> io::Result<PathBuf>
         ensures { IfOk result (λ path. path_buf_bytes path ≡ path_join (path_buf_bytes self.now.path) (printed_file file)) }
     {
@@ -44,7 +44,7 @@ impl<R: Files<File = File> + AllocGlobal + Clone + Drop> Folder<R> {
         Ok(self.path.join(self.rt.alloc(), name.as_str())?)
     }
 
-    // Where the new bytes of a file are written, under a name that is no file's.
+    // The path of a file's draft, to which its new bytes are written first.
     fn draft_of(&self, file: FileName) -> io::Result<PathBuf>
         ensures { IfOk result (λ path. path_buf_bytes path ≡ path_join (path_buf_bytes self.now.path) (draft_name file)) }
     {
@@ -52,7 +52,7 @@ impl<R: Files<File = File> + AllocGlobal + Clone + Drop> Folder<R> {
         Ok(self.path.join(self.rt.alloc(), name.as_str())?)
     }
 
-    // Opens the file of this name, where it is not the one that is kept open.
+    // Opens the file of this name, unless it is the one that is kept open.
     fn keep_open(&mut self, name: FileName, access: Access) -> io::Result<()>
         ensures { OnOk result (IsKept self.new.last name) }
     {
@@ -114,7 +114,7 @@ impl<R: Files<File = File> + AllocGlobal + Clone + Drop> Folder<R> {
         Ok(count)
     }
 
-    /// Writes over the bytes from an offset on that the file has, and behind its end.
+    /// Writes over the bytes from an offset on that the file has, and past its end.
     pub(crate) fn write_at(&mut self, file: FileName, at: u64, bytes: &[u8]) -> io::Result<()> {
         let opened = self.opened(file, Access::Change)?;
         if at > opened.metadata()?.len() {
@@ -168,7 +168,7 @@ impl<R: Files<File = File> + AllocGlobal + Clone + Drop> Folder<R> {
         self.sync_names()
     }
 
-    /// Removes a file, where it is there.
+    /// Removes a file, if there is one.
     pub(crate) fn remove(&mut self, file: FileName) -> io::Result<()>
         ensures { IsClosed self.new.last file }
     {
@@ -204,7 +204,7 @@ fn write_whole(mut file: File, bytes: &[u8]) -> io::Result<()> {
     file.sync_all()
 }
 
-// The name of a file, where an entry of the folder has the form of one. A name that is no text has not.
+// The name of a file, if an entry of the folder has the form of one. A name that is not UTF-8 has not.
 fn name_of<R: Files + Drop>(entry: io::Result<DirEntry<R>>) -> io::Result<Option<FileName>> {
     match entry {
         Ok(entry) => Ok(FileName::parse(entry.file_name().as_bytes())),
@@ -213,7 +213,7 @@ fn name_of<R: Files + Drop>(entry: io::Result<DirEntry<R>>) -> io::Result<Option
     }
 }
 
-// An answer in which no file is none, and no error.
+// An answer in which a missing file is `None` and no error.
 fn if_there<T>(answer: io::Result<T>) -> io::Result<Option<T>> {
     match answer {
         Ok(value) => Ok(Some(value)),

@@ -1,4 +1,4 @@
-// A disk behind a fuse: which calls fail, what they leave, and what is counted.
+// A disk with a fuse: which calls fail, what they leave, and what is counted.
 use super::rig::{Call, Rig, Row, TEXT, has, queue};
 use dl_disk::{Disk, Fuse, FuseDisk, MemoryDisk};
 use dl_types::{Base, FileName, Part};

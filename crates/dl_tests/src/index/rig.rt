@@ -28,7 +28,7 @@ impl<A: Allocator + Copy> Rig<A> {
 }
 
 impl<A: Allocator> Rig<A> {
-    /// Takes room for so many changes.
+    /// Takes room for `changes` changes.
     pub(crate) fn reserve(&mut self, changes: usize) -> Result<(), AllocError> {
         self.index.reserve(changes)
     }
@@ -42,7 +42,7 @@ impl<A: Allocator> Rig<A> {
         true
     }
 
-    /// Rolls, where there is memory and a generation for it.
+    /// Rolls, if there is memory and a generation for it.
     pub(crate) fn roll(&mut self) -> bool {
         if self.index.reserve(1).is_err() || self.index.current().generation >= GENERATION_LIMIT {
             return false;
@@ -61,7 +61,7 @@ impl<A: Allocator> Rig<A> {
         true
     }
 
-    /// Takes the last change back, where there was one.
+    /// Takes the last change back, if there was one.
     pub(crate) fn take_back(&mut self) -> bool {
         if self.index.before().is_empty() {
             return false;

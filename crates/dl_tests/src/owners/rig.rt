@@ -48,7 +48,7 @@ impl<A: Allocator + Copy> Rig<A> {
         Ok(None)
     }
 
-    /// Takes all ownerships of a client: the logs where it had one.
+    /// Takes all ownerships of a client, and returns the logs that it owned.
     pub(crate) fn exit(&mut self, client: u32) -> Result<Vec<Name, A>, AllocError> {
         self.owners.exit(ClientId(client))
     }
