@@ -29,7 +29,7 @@ work=$(mktemp -d)
 
 # What the programs remove themselves, unless they were stopped.
 clear_files() {
-    rm -f -- "$dir"/bench_one.log "$dir"/bench_many.log "$dir"/bench_turn_*.log "$dir"/bench_baseline.log
+    rm -f -- "$dir"/bench_[0-9]*.log "$dir"/bench_baseline.log
 }
 
 trap 'clear_files; rm -rf -- "$work"' EXIT
@@ -42,20 +42,10 @@ echo "bench: building, which takes some minutes the first time" >&2
 }
 rustc -O -o "$work/baseline" "$bench/baseline.rs" || die "the baseline could not be built" 1
 
-# Runs dlog_bench once. A measure that it could not take is told in its line, and the others count.
-run_dlog() {
-    status=0
-    "$program" "$dir" "$items" >>"$work/lines" 2>"$work/faults" || status=$?
-    [ "$status" -eq 0 ] && return
-    [ "$status" -eq 1 ] && [ ! -s "$work/faults" ] && return
-    cat "$work/faults" >&2
-    die "dlog_bench ended with status $status" 1
-}
-
 for round in $(seq "$rounds"); do
     echo "bench: round $round of $rounds" >&2
     clear_files
-    run_dlog
+    "$program" "$dir" "$items" >>"$work/lines" || die "dlog_bench failed" 1
     clear_files
     "$work/baseline" "$dir" "$items" >>"$work/lines" || die "the baseline failed" 1
 done
@@ -76,14 +66,12 @@ awk '
         else printf "%-52s %.2f\n", text, s / f
     }
     { name = $1; sub(/:$/, "", name); if (!(name in seen)) { seen[name] = 1; names[++count] = name } }
-    $2 == "failed" { $1 = ""; failed[name] = $0; next }
     { values[name] = values[name] " " $2; unit[name] = $3 }
     END {
         print "medians, and the rounds they are of"
         for (i = 1; i <= count; i++) {
             name = names[i]
-            if (name in values) printf "%-36s %14s %-8s of%s\n", name, median(name), unit[name], values[name]
-            if (name in failed) printf "%-36s%s\n", name, failed[name]
+            printf "%-36s %14s %-8s of%s\n", name, median(name), unit[name], values[name]
         }
         print ""
         print "times as long as"

@@ -1,17 +1,17 @@
 // What a run measures, and the lines that it prints.
-use anyhow::{Context, Result};
+use crate::fault::Fault;
 use std::fmt::Display;
+use std::fs;
 use std::time::Duration;
 
 /// The bytes of each item.
 pub const ITEM_BYTES: usize = 100;
 
-const NANOS_PER_SECOND: u64 = 1_000_000_000;
-
 /// What the words ask for, and the place, folder or memory, that the lines name.
 #[derive(Clone, Copy)]
 pub struct Bench<'a> {
     pub rt: &'a HostRuntime,
+    pub folder: &'a str,
     pub place: &'a str,
     /// The items that each measure logs.
     pub items: u64,
@@ -19,20 +19,14 @@ pub struct Bench<'a> {
     pub counts: bool,
 }
 
-// How many a second.
-fn rate(count: u64, spent: Duration) -> u64 {
-    let nanos = u64::try_from(spent.as_nanos()).unwrap_or(u64::MAX);
-    count.saturating_mul(NANOS_PER_SECOND) / nanos.max(1)
-}
-
 impl Bench<'_> {
     /// Prints one line.
-    pub fn line(&self, name: &str, value: impl Display + Drop) -> Result<()> {
-        println!(self.rt; "dlog_{name}_{}: {value}", self.place).context("write")
+    pub fn line(&self, name: &str, value: impl Display + Drop) -> Result<(), Fault> {
+        Ok(println!(self.rt; "dlog_{name}_{}: {value}", self.place)?)
     }
 
     // Prints how much it was, or how fast as a number of thousandths.
-    fn show(&self, name: &str, much: u64, unit: &str, fast: u64, per: &str) -> Result<()> {
+    fn show(&self, name: &str, much: u64, unit: &str, fast: u64, per: &str) -> Result<(), Fault> {
         if self.counts {
             return self.line(name, format_args!("{much} {unit}"));
         }
@@ -41,23 +35,34 @@ impl Bench<'_> {
     }
 
     /// The items that went through in a time, or how many a second.
-    pub fn items(&self, name: &str, spent: Duration) -> Result<()> {
-        let items = self.items;
-        if self.counts {
-            return self.line(name, format_args!("{items} items"));
-        }
-        self.line(name, format_args!("{} items/s", rate(items, spent)))
+    pub fn items(&self, name: &str, spent: Duration) -> Result<(), Fault> {
+        let rate = self.items.saturating_mul(1_000_000_000) / micros(spent).max(1);
+        self.show(name, self.items, "items", rate, "items/s")
     }
 
     /// The bytes of items that went through in a time, or how many millions a second.
-    pub fn bytes(&self, name: &str, spent: Duration) -> Result<()> {
+    pub fn bytes(&self, name: &str, spent: Duration) -> Result<(), Fault> {
         let bytes = self.items.saturating_mul(ITEM_BYTES as u64);
-        self.show(name, bytes, "bytes", rate(bytes, spent) / 1_000, "MB/s")
+        let rate = bytes.saturating_mul(1_000) / micros(spent).max(1);
+        self.show(name, bytes, "bytes", rate, "MB/s")
     }
 
     /// The items of a log that was opened in a time, or its milliseconds.
-    pub fn wait(&self, name: &str, spent: Duration) -> Result<()> {
-        let micros = u64::try_from(spent.as_micros()).unwrap_or(u64::MAX);
-        self.show(name, self.items, "items", micros, "ms")
+    pub fn wait(&self, name: &str, spent: Duration) -> Result<(), Fault> {
+        self.show(name, self.items, "items", micros(spent), "ms")
     }
+
+    /// Prints the most memory that was resident so far.
+    pub fn memory(&self) -> Result<(), Fault> {
+        let status = fs::read_to_string(self.rt, "/proc/self/status")?;
+        let most = status
+            .as_str()
+            .lines()
+            .find_map(|line| line.strip_prefix("VmHWM:"));
+        self.line("memory", most.unwrap_or("unknown").trim())
+    }
+}
+
+fn micros(time: Duration) -> u64 {
+    u64::try_from(time.as_micros()).unwrap_or(u64::MAX)
 }

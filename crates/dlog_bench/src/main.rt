@@ -3,94 +3,70 @@
 
 mod bench;
 mod client;
+mod fault;
 mod measures;
 
-use anyhow::Result;
 use bench::Bench;
-use clap::error::ErrorKind;
-use clap::{Arg, ArgAction, ArgMatches, Command, Error, value_parser};
+use fault::Fault;
 use measures::measure_all;
-use std::alloc::{AllocError, Global};
 use std::env;
-use std::fmt::Display;
 use std::process::ExitCode;
 
-// The status if a measure could not be taken, and if the words are wrong.
-const FAILED: u8 = 1;
+const HELP: &str =
+    "Measures dlog over the folder DIR and over memory. The files that it makes in DIR begin with bench_:
+those of an earlier run are removed before and its own after, and nothing else is
 
-const MISUSED: u8 = 2;
+Usage: dlog_bench [--counts] DIR N
 
-fn main(rt: HostRuntime) -> Result<ExitCode> {
-    let args = match env::args(&rt) {
-        Ok(args) => args,
-        Err(error) => return Ok(tell(&rt, error, MISUSED)),
+  DIR            The folder to write in, which has to be there and should be empty
+  N              How many items of 100 bytes a measure logs, from 1 to 100000000
+  --counts       Print what was logged and read back in place of how fast
+  -h, --help     Print help
+  -V, --version  Print version";
+
+fn main(rt: HostRuntime) -> ExitCode {
+    let Err(fault) = run(&rt) else {
+        return ExitCode::SUCCESS;
     };
-    let words: Vec<String> = args.collect(rt.alloc())?;
-    let command = command(rt.alloc())?;
-    let matches = match command.try_get_matches_from(words.as_slice()) {
-        Ok(matches) => matches,
-        Err(error) => return Ok(show(&rt, &error)),
-    };
-    Ok(run(&rt, &matches))
-}
-
-// Shows what was asked for, as the help, or what is wrong with the words.
-fn show(rt: &HostRuntime, error: &Error) -> ExitCode {
-    if error.kind() == ErrorKind::OutOfMemory {
-        return tell(rt, "out of memory", FAILED);
-    }
-    match error.print(rt) {
-        Ok(()) => ExitCode::from(error.exit_code() as u8),
-        Err(_) => tell(rt, "write", FAILED),
+    // If standard error is closed too, the status alone says it.
+    let _ = eprintln!(rt; "dlog_bench: {fault}");
+    match fault {
+        Fault::Misused => ExitCode::from(2),
+        _ => ExitCode::FAILURE,
     }
 }
 
-// The command line.
-fn command<'a>(alloc: Global) -> Result<Command<'a>, AllocError> {
-    let folder = Arg::new(alloc, "folder")
-        .value_name("DIR")
-        .required(true)
-        .help("The folder to write in, which has to be there and should be empty");
-    let items = Arg::new(alloc, "items")
-        .value_name("N")
-        .required(true)
-        .value_parser(value_parser!(u32).range(1..=100_000_000))
-        .help("How many items of 100 bytes a measure logs, from 1 to 100000000");
-    let counts = Arg::new(alloc, "counts")
-        .long("counts")
-        .action(ArgAction::SetTrue)
-        .help("Print what was logged and read back in place of how fast");
-    Command::new(alloc, "dlog_bench")
-        .version("0.1.0")
-        .about(
-            "Measures dlog over the folder DIR and over memory. The files that it makes in DIR begin with bench_: those of an earlier run are removed before and its own after, and nothing else is",
-        )
-        .arg(folder)?
-        .arg(items)?
-        .arg(counts)
+fn run(rt: &HostRuntime) -> Result<(), Fault> {
+    let words = env::args(rt).map_err(|_| Fault::Misused)?;
+    let words: Vec<String> = words.collect(rt.alloc())?;
+    run_words(rt, words.as_slice())
 }
 
-// Takes all measures that the words ask for.
-fn run(rt: &HostRuntime, words: &ArgMatches<'_>) -> ExitCode {
-    let (Some(folder), Some(items)) = (words.get_str("folder"), words.get_one::<u32>("items"))
-    else {
-        return ExitCode::from(MISUSED);
+// Does what the words ask for, the first of which is the name of the program.
+fn run_words(rt: &HostRuntime, words: &[String]) -> Result<(), Fault> {
+    let (mut folder, mut number, mut counts) = (None, None, false);
+    for word in words.iter().skip(1) {
+        match word.as_str() {
+            "-h" | "--help" => return Ok(println!(rt; "{HELP}")?),
+            "-V" | "--version" => return Ok(println!(rt; "dlog_bench 0.1.0")?),
+            "--counts" if !counts => counts = true,
+            word if word.starts_with('-') => return Err(Fault::Misused),
+            word if folder.is_none() => folder = Some(word),
+            word if number.is_none() => number = Some(word),
+            _ => return Err(Fault::Misused),
+        }
+    }
+    let (Some(folder), Some(number)) = (folder, number) else {
+        return Err(Fault::Misused);
     };
-    let bench = Bench {
+    let Ok(items @ 1..=100_000_000) = number.parse() else {
+        return Err(Fault::Misused);
+    };
+    measure_all(Bench {
         rt,
+        folder,
         place: "folder",
-        items: u64::from(items),
-        counts: words.get_flag("counts"),
-    };
-    match measure_all(bench, folder) {
-        Ok(true) => ExitCode::SUCCESS,
-        Ok(false) => ExitCode::from(FAILED),
-        Err(error) => tell(rt, error, FAILED),
-    }
-}
-
-// Says what went wrong on standard error. If that is closed too, the status alone says it.
-fn tell(rt: &HostRuntime, what: impl Display + Drop, status: u8) -> ExitCode {
-    let _ = eprintln!(rt; "dlog_bench: {what}");
-    ExitCode::from(status)
+        items,
+        counts,
+    })
 }

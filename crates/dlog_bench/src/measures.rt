@@ -1,13 +1,16 @@
 // The measures, in their order.
 use crate::bench::Bench;
-use crate::client::{Client, NO_MEMORY};
-use anyhow::{Context, Result, bail};
-use dl_disk::{Disk, FolderDisk, ListFault, MemoryDisk};
-use dl_types::{Base, FileName, Name};
-use std::alloc::Global;
-use std::fs;
-use std::io::ErrorKind;
+use crate::client::Client;
+use crate::fault::Fault;
+use dl_disk::{Disk, FolderDisk, MemoryDisk};
+use dl_hub::Hub;
+use dl_types::{Base, FileName, Name, Refusal};
+use std::fs::{self, OpenOptions};
+use std::io::{ErrorKind, Write};
 use std::time::Duration;
+
+// The blocks of a hub's cache, as many as the program has by default.
+const BLOCKS: u32 = 16;
 
 // The most logs that are written in turn.
 const MOST_LOGS: u64 = 1_000;
@@ -15,135 +18,92 @@ const MOST_LOGS: u64 = 1_000;
 // What a stop leaves in the middle of writing an item: five bytes of the eight before it.
 const TORN: [u8; 5] = [0, 0, 0, 100, 0xd1];
 
-/// Takes all measures, over the folder, whose files are removed before and after, and then over memory. Answers whether
-/// all were taken.
-pub fn measure_all(bench: Bench<'_>, folder: &str) -> Result<bool> {
-    let logs = names(bench.rt.alloc(), bench.items)?;
-    clear(bench.rt, folder, logs.as_slice())?;
-    let taken = measure_folder(bench, folder, logs.as_slice());
-    clear(bench.rt, folder, logs.as_slice())?;
-    let whole = taken?;
-    let bench = Bench {
-        place: "memory",
-        ..bench
-    };
-    measure(bench, MemoryDisk::new(bench.rt.alloc()), logs.as_slice())?;
-    Ok(whole)
+/// Takes all measures, over the folder, whose files are removed before and after, and then over memory.
+pub fn measure_all(bench: Bench<'_>) -> Result<(), Fault> {
+    clear(bench)?;
+    let done = measure_folder(bench);
+    clear(bench)?;
+    done?;
+    let (place, disk) = ("memory", MemoryDisk::new(bench.rt.alloc()));
+    measure(Bench { place, ..bench }, Ok(disk))
 }
 
-// The names of the logs: that of one item a call, that of many, and those that are written in turn.
-fn names(alloc: Global, items: u64) -> Result<Vec<Name>> {
-    let mut names = Vec::new(alloc);
-    names.push(name("bench_one")?).context(NO_MEMORY)?;
-    names.push(name("bench_many")?).context(NO_MEMORY)?;
-    for number in 0..items.min(MOST_LOGS) {
-        let text = format!(in alloc; "bench_turn_{number}").context(NO_MEMORY)?;
-        names.push(name(text.as_str())?).context(NO_MEMORY)?;
+// How many logs there are: the first for one item a call, the second for many, and the others to be written in turn.
+fn count_logs(bench: Bench<'_>) -> u64 {
+    bench.items.min(MOST_LOGS).saturating_add(2)
+}
+
+// The name of the log of this number.
+fn name(bench: Bench<'_>, number: u64) -> Result<Name, Fault> {
+    let text = format!(in bench.rt.alloc(); "bench_{number}")?;
+    Ok(Name::parse(text.as_bytes()).ok_or(Refusal::NoSuchLog)?)
+}
+
+// The names of all logs.
+fn names(bench: Bench<'_>) -> Result<Vec<Name>, Fault> {
+    let mut names = Vec::new(bench.rt.alloc());
+    for number in 0..count_logs(bench) {
+        names.push(name(bench, number)?)?;
     }
     Ok(names)
 }
 
-// Reads a name.
-fn name(text: &str) -> Result<Name> {
-    match Name::parse(text.as_bytes()) {
-        Some(name) => Ok(name),
-        None => bail!("name"),
-    }
+// The path of a log's file.
+fn path(bench: Bench<'_>, number: u64) -> Result<String, Fault> {
+    Ok(format!(in bench.rt.alloc(); "{}/bench_{number}.log", bench.folder)?)
 }
 
-// The file of a log.
-fn file_of(log: Name) -> FileName {
-    FileName::halt(Base::of(log))
-}
-
-// Removes the files of these logs from a folder, and nothing else.
-fn clear(rt: &HostRuntime, folder: &str, logs: &[Name]) -> Result<()> {
-    for log in logs {
-        let path = format!(in rt.alloc(); "{folder}/{}", file_of(*log)).context(NO_MEMORY)?;
-        match fs::remove_file(rt, path.as_str()) {
-            Err(error) if error.kind() != ErrorKind::NotFound => bail!("folder"),
+// Removes the files of the logs from the folder, and nothing else.
+fn clear(bench: Bench<'_>) -> Result<(), Fault> {
+    for number in 0..count_logs(bench) {
+        match fs::remove_file(bench.rt, path(bench, number)?.as_str()) {
+            Err(error) if error.kind() != ErrorKind::NotFound => return Err(error.into()),
             _ => {}
         }
     }
     Ok(())
 }
 
-// The disk over a folder.
-fn open_folder(rt: &HostRuntime, folder: &str) -> Result<FolderDisk<HostRuntime>> {
-    let own = rt.clone().context(NO_MEMORY)?;
-    match FolderDisk::open(own, folder) {
-        Ok(disk) => Ok(disk),
-        Err(ListFault::Device) => bail!("folder"),
-        Err(ListFault::OutOfMemory) => bail!("out of memory"),
-    }
+// The measures over the folder. The first hub is let go with logs open, as a stop lets it go.
+fn measure_folder(bench: Bench<'_>) -> Result<(), Fault> {
+    measure(bench, disk(bench))?;
+    tear(bench)?;
+    bench.wait("open_repair", reopen(bench, 0)?)?;
+    bench.wait("open_closed", reopen(bench, 1)?)
 }
 
-// The measures over a folder. The first hub is let go with logs open, as a stop lets it go.
-fn measure_folder(bench: Bench<'_>, folder: &str, logs: &[Name]) -> Result<bool> {
-    measure_at(bench, folder, logs)?;
-    let [one, many, ..] = logs else {
-        bail!("name");
-    };
-    tear_at(bench.rt, folder, file_of(*one))?;
-    let repaired = show_open(bench, "open_repair", reopen(bench, folder, *one))?;
-    let opened = show_open(bench, "open_closed", reopen(bench, folder, *many))?;
-    Ok(repaired && opened)
+// Writes the front of a frame after the end of the first file, as a stop in the middle of a write leaves it.
+fn tear(bench: Bench<'_>) -> Result<(), Fault> {
+    let path = path(bench, 0)?;
+    let mut options = OpenOptions::new();
+    let mut file = options.append(true).open(bench.rt, path.as_str())?;
+    Ok(file.write_all(&TORN)?)
 }
 
-// The measures over the disk of a folder.
-fn measure_at(bench: Bench<'_>, folder: &str, logs: &[Name]) -> Result<()> {
-    measure(bench, open_folder(bench.rt, folder)?, logs)
+// The disk over the folder.
+fn disk(bench: Bench<'_>) -> Result<FolderDisk<HostRuntime>, Fault> {
+    FolderDisk::open(bench.rt.clone()?, bench.folder).map_err(|_| Fault::Folder)
 }
 
-// Tears a file of a folder.
-fn tear_at(rt: &HostRuntime, folder: &str, file: FileName) -> Result<()> {
-    tear(open_folder(rt, folder)?, file)
-}
-
-// Writes the front of a frame after the end of a file, as a stop in the middle of a write leaves it.
-fn tear<D: Disk + Drop>(mut disk: D, file: FileName) -> Result<()> {
-    disk.know(file.base).context(NO_MEMORY)?;
-    let end = disk.size(file).context("folder")?.context("folder")?;
-    disk.write_at(file, end, &TORN).context("folder")
-}
-
-// Opens a log whose file is in a folder, and then reads it.
-fn reopen(bench: Bench<'_>, folder: &str, log: Name) -> Result<Duration> {
-    time_open(bench, open_folder(bench.rt, folder)?, log)
-}
-
-// Opens a log of a disk, and then reads it.
-fn time_open<D: Disk + Drop>(bench: Bench<'_>, disk: D, log: Name) -> Result<Duration> {
-    let mut client = Client::new(bench, disk)?;
-    client.time_open(log)
-}
-
-// Prints how long an open took, or why it failed, and answers whether it was taken.
-fn show_open(bench: Bench<'_>, name: &str, taken: Result<Duration>) -> Result<bool> {
-    match taken {
-        Ok(spent) => bench.wait(name, spent)?,
-        Err(error) => {
-            bench.line(name, format_args!("failed {error}"))?;
-            return Ok(false);
-        }
-    }
-    Ok(true)
+// Opens a log of the folder with a new hub, and then reads it. Answers how long the open took.
+fn reopen(bench: Bench<'_>, number: u64) -> Result<Duration, Fault> {
+    let log = name(bench, number)?;
+    let hub = Hub::new(bench.rt.alloc(), disk(bench)?, BLOCKS)?;
+    Client { bench, hub }.time_open(log)
 }
 
 // The measures over any disk.
-fn measure<D: Disk + Drop>(bench: Bench<'_>, disk: D, logs: &[Name]) -> Result<()> {
-    let mut client = Client::new(bench, disk)?;
-    measure_each(bench, &mut client, logs)
+fn measure<D: Disk + Drop>(bench: Bench<'_>, disk: Result<D, Fault>) -> Result<(), Fault> {
+    let hub = Hub::new(bench.rt.alloc(), disk?, BLOCKS)?;
+    measure_calls(&mut Client { bench, hub })
 }
 
-// The measures of a client. Of the logs, that of many items a call is closed.
-fn measure_each<D: Disk + Drop>(
-    bench: Bench<'_>,
-    client: &mut Client<'_, D>,
-    logs: &[Name],
-) -> Result<()> {
-    let [one, many, turns @ ..] = logs else {
-        bail!("name");
+// Logs to all logs and reads the first. The second, that of many items a call, is closed.
+fn measure_calls<D: Disk + Drop>(client: &mut Client<'_, D>) -> Result<(), Fault> {
+    let bench = client.bench;
+    let logs = names(bench)?;
+    let [one, many, turns @ ..] = logs.as_slice() else {
+        return Err(Fault::Refused(Refusal::NoSuchLog));
     };
     client.open(*one)?;
     bench.items("append", client.append(&[*one], 1)?)?;
@@ -152,45 +112,28 @@ fn measure_each<D: Disk + Drop>(
     let spent = client.read(*one)?;
     bench.items("read", spent)?;
     bench.bytes("read_bytes", spent)?;
-    show_memory(bench)?;
+    if !bench.counts {
+        bench.memory()?;
+    }
     for log in turns {
         client.open(*log)?;
     }
     bench.items("round_robin", client.append(turns, 1)?)?;
     if bench.counts {
-        show_files(bench, client, logs)?;
+        show_files(client, logs.as_slice())?;
     }
     client.close(*many)
 }
 
-// Prints the most memory that was resident so far, if rates are shown and the system says it.
-fn show_memory(bench: Bench<'_>) -> Result<()> {
-    match most_memory(bench.rt) {
-        Some(kilobytes) if !bench.counts => bench.line("memory", format_args!("{kilobytes} kB")),
-        _ => Ok(()),
-    }
-}
-
-// The most memory that was resident so far, in kilobytes.
-fn most_memory(rt: &HostRuntime) -> Option<u64> {
-    let text = fs::read_to_string(rt, "/proc/self/status").ok()?;
-    let (_, rest) = text.as_str().split_once("VmHWM:")?;
-    rest.split_whitespace().next()?.parse().ok()
-}
-
-// Prints how many files the logs have and how large they are.
-fn show_files<D: Disk + Drop>(
-    bench: Bench<'_>,
-    client: &mut Client<'_, D>,
-    logs: &[Name],
-) -> Result<()> {
-    let (mut files, mut bytes) = (0u64, 0u64);
+// Prints how many files the logs have, each its own, and how large they are.
+fn show_files<D: Disk + Drop>(client: &mut Client<'_, D>, logs: &[Name]) -> Result<(), Fault> {
+    let mut bytes = 0u64;
     for log in logs {
-        if let Some(size) = client.size(file_of(*log))? {
-            files = files.saturating_add(1);
-            bytes = bytes.saturating_add(size);
-        }
+        let text = client.hub.read_file(FileName::halt(Base::of(*log)));
+        let text = text.map_err(|_| Fault::Folder)?.ok_or(Fault::Folder)?;
+        bytes = bytes.saturating_add(text.len() as u64);
     }
-    bench.line("files", format_args!("{files} files"))?;
+    let bench = client.bench;
+    bench.line("files", format_args!("{} files", logs.len()))?;
     bench.line("file_bytes", format_args!("{bytes} bytes"))
 }

@@ -1,10 +1,19 @@
-// Why a case fails.
+// Why a case fails, and why the program stops.
 use dl_app::ScriptFault;
 use dl_types::{Fail, Name};
 use std::alloc::{AllocError, AllocFailed};
 use std::fmt::Write;
 use std::{fmt, io};
 use thiserror::Error;
+
+/// Why the program stops before all cases are run.
+#[derive(Clone, Copy, Debug, Error)]
+pub enum Stop {
+    #[error("give DIR and no other word; --help says more")]
+    Misused,
+    #[error("{0}")]
+    System(#[from] io::Error),
+}
 
 /// Why a case fails, or cannot be run.
 #[derive(Clone, Copy, Debug, Error)]

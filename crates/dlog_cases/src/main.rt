@@ -9,74 +9,54 @@ mod fault;
 mod script;
 mod suite;
 
-use anyhow::Result;
-use clap::error::ErrorKind;
-use clap::{Arg, Command, Error};
-use std::alloc::{AllocError, Global};
+use fault::Stop;
 use std::env;
-use std::fmt::Display;
 use std::process::ExitCode;
 use suite::{Tally, run_suite};
 
-// The status if a case fails or cannot be run, and if the words are wrong.
-const FAILED: u8 = 1;
+const HELP: &str =
+    "Runs the worked cases of the folder DIR and compares each answer with the one that is written
 
-const MISUSED: u8 = 2;
+Usage: dlog_cases DIR
 
-fn main(rt: HostRuntime) -> Result<ExitCode> {
-    let args = match env::args(&rt) {
-        Ok(args) => args,
-        Err(error) => return Ok(tell(&rt, error, MISUSED)),
-    };
-    let words: Vec<String> = args.collect(rt.alloc())?;
-    let command = command(rt.alloc())?;
-    let matches = match command.try_get_matches_from(words.as_slice()) {
-        Ok(matches) => matches,
-        Err(error) => return Ok(show(&rt, &error)),
-    };
-    let Some(folder) = matches.get_str("folder") else {
-        return Ok(ExitCode::from(MISUSED));
-    };
-    Ok(run(&rt, folder))
-}
+  DIR            The folder with the cases, the files whose names end in .case
+  -h, --help     Print help
+  -V, --version  Print version";
 
-// Shows what was asked for, as the help, or what is wrong with the words.
-fn show(rt: &HostRuntime, error: &Error) -> ExitCode {
-    if error.kind() == ErrorKind::OutOfMemory {
-        return tell(rt, "out of memory", FAILED);
-    }
-    match error.print(rt) {
-        Ok(()) => ExitCode::from(error.exit_code() as u8),
-        Err(_) => tell(rt, "write", FAILED),
+fn main(rt: HostRuntime) -> ExitCode {
+    match run(&rt) {
+        Ok(true) => ExitCode::SUCCESS,
+        Ok(false) => ExitCode::FAILURE,
+        Err(stop) => tell(&rt, stop),
     }
 }
 
-// The command line.
-fn command<'a>(alloc: Global) -> Result<Command<'a>, AllocError> {
-    let folder = Arg::new(alloc, "folder")
-        .value_name("DIR")
-        .required(true)
-        .help("The folder with the cases, the files whose names end in .case");
-    Command::new(alloc, "dlog_cases")
-        .version("0.1.0")
-        .about(
-            "Runs the worked cases of the folder DIR and compares each answer with the one that is written",
-        )
-        .arg(folder)
+// Says on standard error why the program stops. If that is closed too, the status alone says it.
+fn tell(rt: &HostRuntime, stop: Stop) -> ExitCode {
+    let _ = eprintln!(rt; "dlog_cases: {stop}");
+    match stop {
+        Stop::Misused => ExitCode::from(2),
+        Stop::System(_) => ExitCode::FAILURE,
+    }
 }
 
-// Runs all cases, and says how many there were.
-fn run(rt: &HostRuntime, folder: &str) -> ExitCode {
+// Takes the one word behind the name of the program.
+fn run(rt: &HostRuntime) -> Result<bool, Stop> {
+    let mut words = env::args(rt).map_err(|_| Stop::Misused)?.skip(1);
+    match (words.next(), words.next()) {
+        (Some(word), None) => run_word(rt, word.as_str()),
+        _ => Err(Stop::Misused),
+    }
+}
+
+// Does what a word asks for, and says whether no case failed.
+fn run_word(rt: &HostRuntime, word: &str) -> Result<bool, Stop> {
     let mut tally = Tally::default();
-    match run_suite(rt, folder, &mut tally) {
-        Ok(()) if tally.failed == 0 => ExitCode::SUCCESS,
-        Ok(()) => ExitCode::from(FAILED),
-        Err(error) => tell(rt, error, FAILED),
+    match word {
+        "-h" | "--help" => println!(rt; "{HELP}")?,
+        "-V" | "--version" => println!(rt; "dlog_cases 0.1.0")?,
+        _ if word.starts_with('-') => return Err(Stop::Misused),
+        folder => run_suite(rt, folder, &mut tally)?,
     }
-}
-
-// Says what went wrong on standard error. If that is closed too, the status alone says it.
-fn tell(rt: &HostRuntime, what: impl Display + Drop, status: u8) -> ExitCode {
-    let _ = eprintln!(rt; "dlog_cases: {what}");
-    ExitCode::from(status)
+    Ok(tally.failed == 0)
 }
