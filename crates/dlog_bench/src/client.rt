@@ -4,7 +4,8 @@ use crate::fault::Fault;
 use dl_disk::Disk;
 use dl_hub::Hub;
 use dl_types::{
-    ClientId, Event, Fail, Item, Items, Kind, Name, OpenArgs, Place, Refusal, Reply, Run, Turn,
+    Call, ClientId, Event, Fail, Item, Items, Kind, Name, OpenArgs, Place, Refusal, Reply, Run,
+    Turn,
 };
 use std::time::{Duration, Instant};
 
@@ -15,6 +16,12 @@ const CHUNK_ITEMS: u64 = 1_000;
 
 // The calls whose events are made at a time. Making them is not timed, and few take little memory.
 const ROUND_CALLS: u64 = 64;
+
+// The client's call on a log.
+fn call(log: Name, call: Call) -> Event {
+    let client = CLIENT;
+    Event::Call { client, log, call }
+}
 
 /// The one client of a hub.
 #[derive(Drop)]
@@ -45,15 +52,13 @@ impl<D: Disk + Drop> Client<'_, D> {
 
     /// Opens a log. Its file is begun if it is not there, and repaired if that is needed.
     pub fn open(&mut self, log: Name) -> Result<(), Fault> {
-        let (client, args) = (CLIENT, OpenArgs::of(Kind::Halt));
-        self.ask(Event::Open { client, log, args })?;
+        self.ask(call(log, Call::Open(OpenArgs::of(Kind::Halt))))?;
         Ok(())
     }
 
     /// Closes a log.
     pub fn close(&mut self, log: Name) -> Result<(), Fault> {
-        let client = CLIENT;
-        self.ask(Event::Close { client, log })?;
+        self.ask(call(log, Call::Close))?;
         Ok(())
     }
 
@@ -84,13 +89,9 @@ impl<D: Disk + Drop> Client<'_, D> {
         let start = Instant::now(self.bench.rt)?;
         let (mut from, mut passed) = (Place::Start, 0u64);
         for _chunk in 0..u64::MAX {
-            let event = Event::Chunk {
-                client: CLIENT,
-                log,
-                from,
-                most: CHUNK_ITEMS,
-            };
-            let Reply::Items { next, items, .. } = self.ask(event)? else {
+            let most = CHUNK_ITEMS;
+            let Reply::Items { next, items, .. } = self.ask(call(log, Call::Chunk { from, most }))?
+            else {
                 break;
             };
             passed = pass(&items, passed)?;
@@ -124,9 +125,8 @@ impl Bench<'_> {
             bytes.resize(ITEM_BYTES, b'x')?;
             items.push(Item::of(bytes)?)?;
         }
-        let client = CLIENT;
         match Items::of(items) {
-            Ok(items) => Ok(Event::Log { client, log, items }),
+            Ok(items) => Ok(call(log, Call::Log(items))),
             Err(_) => Ok(Event::Flush),
         }
     }
