@@ -16,5 +16,5 @@ returns-clause-done g c =
     let new : Stage g.row.D.Denot = record { hub = c.step-outcome.new.self; places = place_of c.args.self.now.places } in
     answered c.write_answer.result (IsStepped D.state g.row.A.Denot c.args.event old new)
     (Appends (g.W.Write.contents c.args.output.now) (g.W.Write.contents c.write_answer.new.output)) c.as_slice.result.now
-    (outcome, record { run = (c.step-outcome.new.self, c.step-outcome.ensures.private, refl); line = line }, refl)
+    (outcome, record { run = (c.step-outcome.new.self, c.step-outcome.ensures.step, refl); line = line }, refl)
     c.write_answer.ensures.written
