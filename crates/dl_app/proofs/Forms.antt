@@ -3,10 +3,10 @@ use Rattle.std.proofs.Common.{◌≡◌, ℕ, ◌==◌, Bool, true, false, Optio
 use Rattle.std.proofs.Math.Dec.{eqb-suc-zero}
 use Rattle.std.specs.Bool.{then_some}
 use Rattle.dl_types.specs.declared.size.OpenArgs.{OpenArgs}
-use Rattle.dl_app.specs.declared.command.Call.{Call}
-use Rattle.dl_app.specs.declared.command.Call.TheVariants.{Open, Log, Chunk, Close}
+use Rattle.dl_app.specs.declared.command.Request.{Request}
+use Rattle.dl_app.specs.declared.command.Request.TheVariants.{Open, Log, Chunk, Close}
 use Rattle.dl_app.specs.declared.command.Start.{Start}
-use Rattle.dl_app.specs.Command.{GivesCall, GivesArgs, GivesChunk, call_word}
+use Rattle.dl_app.specs.Command.{GivesRequest, GivesArgs, GivesChunk, request_word}
 
 pub none_holds : {A : Type 0} (o : Option A) (P : Type 0) → P → IfNone o P
 none_holds None P p = p
@@ -17,7 +17,7 @@ none_maps None P Q f p = f p
 none_maps (Some x) P Q f p = tt
 
 -- an open whose words give no arguments
-pub no_open : (verb : List ℕ) (words : List (List ℕ)) → verb ≡ codes "open" → ((args : OpenArgs) → GivesArgs words args → ⊥) → (call : Call) → verb ≡ call_word call → GivesCall words call → ⊥
+pub no_open : (verb : List ℕ) (words : List (List ℕ)) → verb ≡ codes "open" → ((args : OpenArgs) → GivesArgs words args → ⊥) → (request : Request) → verb ≡ request_word request → GivesRequest words request → ⊥
 no_open verb words is none (Open args) same given = none args given
 no_open verb words is none (Log items) same given = let bad : ⊥ = cc in bad
 no_open verb words is none (Chunk from most) same given = let bad : ⊥ = cc in bad
@@ -27,7 +27,7 @@ second_letters : (a b : ℕ) → a ≡ b → a ≡ 104 → b ≡ 108 → ⊥
 second_letters a b same h l = absurd (omega arith)
 
 -- a chunk whose words give none
-pub no_chunk : (verb : List ℕ) (words : List (List ℕ)) → verb ≡ codes "chunk" → ((from : Start) (most : ℕ) → GivesChunk words from most → ⊥) → (call : Call) → verb ≡ call_word call → GivesCall words call → ⊥
+pub no_chunk : (verb : List ℕ) (words : List (List ℕ)) → verb ≡ codes "chunk" → ((from : Start) (most : ℕ) → GivesChunk words from most → ⊥) → (request : Request) → verb ≡ request_word request → GivesRequest words request → ⊥
 no_chunk verb words is none (Open args) same given = let bad : ⊥ = cc in bad
 no_chunk verb words is none (Log items) same given = let bad : ⊥ = cc in bad
 no_chunk verb words is none (Chunk from most) same given = none from most given

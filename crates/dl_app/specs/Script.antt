@@ -3,6 +3,7 @@ use Rattle.std.specs.Prelude.{◌≡◌, ◌⊎◌, ◌+◌, ◌<◌, ◌≤◌,
 use Rattle.std.specs.List.{flat_map}
 use Rattle.std.specs.FinMap as map
 use Rattle.std.specs.Io.KnownBytes.{Appends}
+use Rattle.dl_types.specs.declared.call.Call.{Call}
 use Rattle.dl_types.specs.declared.event.Event.{Event}
 use Rattle.dl_types.specs.declared.event.Event.TheVariants as event
 use Rattle.dl_types.specs.declared.file.FileName.{FileName}
@@ -20,10 +21,10 @@ use Rattle.dl_hub.specs.declared.fault.FileFault.TheVariants as fault
 use Rattle.dl_hub.specs.View.{HubView}
 use Rattle.dl_hub.specs.Run.{IsRun}
 use Rattle.dl_app.specs.declared.command.Command.{Command}
-use Rattle.dl_app.specs.declared.command.Command.TheVariants.{Call, Exit, File, Flush}
+use Rattle.dl_app.specs.declared.command.Command.TheVariants as command
 use Rattle.dl_app.specs.declared.lines.TheConstants.{LINE_LIMIT, LINES_LIMIT}
 use Rattle.dl_app.specs.Answers.{hex, IsLineOf, IsRefusalText, IsReplyText}
-use Rattle.dl_app.specs.Command.{IsForm, event_in, refusal_in}
+use Rattle.dl_app.specs.Command.{IsForm, call_in, refusal_in}
 use Rattle.dl_app.specs.Lines.{is_passed_over}
 use Rattle.dl_app.specs.Places.{places_after}
 use Rattle.dl_app.specs.Words.{words_of}
@@ -66,10 +67,11 @@ module _ {D : Type 0} (state : D → DiskState) (Z : Type 0) where
     pub run : IsRun state old new (event ∷ []) (outcome ∷ [])
     pub line : IsLineOf (IsReplyText outcome.reply) answer
 
-  -- a call that is refused before it is an event changes nothing
-  abbrev pub IsCalled : Option Refusal → ClientId → Name → Event Z → Stage D → Stage D → List ℕ → Type 0
-  IsCalled (Some refusal) client log event old new answer = (new ≡ old) × IsLineOf (IsRefusalText refusal) answer
-  IsCalled None client log event old new answer = (outcome : Outcome Z) × IsAnswered event outcome old.hub new.hub answer × (new.places ≡ places_after outcome.reply client log old.places)
+  -- a call is run as an event; one that is refused before changes nothing
+  abbrev pub IsCalled : Option Refusal → ClientId → Name → Call Z → Stage D → Stage D → List ℕ → Type 0
+  IsCalled (Some refusal) client log call old new answer = (new ≡ old) × IsLineOf (IsRefusalText refusal) answer
+  IsCalled None client log call old new answer =
+      (outcome : Outcome Z) × IsAnswered (event.Call client log call) outcome old.hub new.hub answer × (new.places ≡ places_after outcome.reply client log old.places)
 
   -- an event that is no call was run, and moves no client's place
   abbrev pub IsStepped : Event Z → Stage D → Stage D → List ℕ → Type 0
@@ -77,10 +79,10 @@ module _ {D : Type 0} (state : D → DiskState) (Z : Type 0) where
 
   -- what a command does
   abbrev pub IsDone : Command → Stage D → Stage D → List ℕ → Type 0
-  IsDone (Call client log c) old new answer = IsCalled (refusal_in c) client log (event_in client log c (old.places client log)) old new answer
-  IsDone (Exit client) old new answer = IsStepped (event.Exit client) old new answer
-  IsDone (File file) old new answer = (new.places ≡ old.places) × ShowsFile state file old.hub new.hub answer
-  IsDone Flush old new answer = IsStepped event.Flush old new answer
+  IsDone (command.Call client log request) old new answer = IsCalled (refusal_in request) client log (call_in request (old.places client log)) old new answer
+  IsDone (command.Exit client) old new answer = IsStepped (event.Exit client) old new answer
+  IsDone (command.File file) old new answer = (new.places ≡ old.places) × ShowsFile state file old.hub new.hub answer
+  IsDone command.Flush old new answer = IsStepped event.Flush old new answer
 
   -- what a line does: nothing, or what its command does
   abbrev pub IsLine : List ℕ → Stage D → Stage D → List ℕ → Type 0

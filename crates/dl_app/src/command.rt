@@ -2,20 +2,20 @@
 ghost use Rattle.std.specs.Prelude.{◌≡◌, ◌≢◌, ℕ, ◌∷◌, IfSome, IfNone, IfOk, IfErr, Err, codes};
 ghost use Rattle.std.specs.List.{list_all};
 ghost use Rattle.dl_types.specs.declared.size.OpenArgs.{OpenArgs};
-ghost use Rattle.dl_app.specs.declared.command.Call.{Call};
 ghost use Rattle.dl_app.specs.declared.command.Command.{Command};
+ghost use Rattle.dl_app.specs.declared.command.Request.{Request};
 ghost use Rattle.dl_app.specs.declared.command.Start.{Start};
 ghost use Rattle.dl_app.specs.Lines.{is_passed_over};
 ghost use Rattle.dl_app.specs.Places.{place_of};
 ghost use Rattle.dl_app.specs.Items.{is_item};
 ghost use Rattle.dl_app.specs.Words.{words_of, words_left};
-ghost use Rattle.dl_app.specs.Command.{IsForm, GivesCall, GivesArgs, GivesChunk, call_word, start_word, event_in, refusal_in};
+ghost use Rattle.dl_app.specs.Command.{IsForm, GivesRequest, GivesArgs, GivesChunk, request_word, start_word, call_in, refusal_in};
 
 use crate::items::{is_item, items_of};
 use crate::options::args_in;
 use crate::places::Places;
 use crate::words::{Words, client, number};
-use dl_types::{ClientId, Event, Fail, FileName, Kind, Name, OpenArgs, Place};
+use dl_types::{Call, ClientId, Fail, FileName, Kind, Name, OpenArgs, Place};
 use std::alloc::Allocator;
 
 /// What a line asks for.
@@ -25,7 +25,7 @@ pub enum Command<'a> {
     Call {
         client: ClientId,
         log: Name,
-        call: Call<'a>,
+        request: Request<'a>,
     },
     /// A client is gone.
     Exit(ClientId),
@@ -35,9 +35,9 @@ pub enum Command<'a> {
     Flush,
 }
 
-/// A call on a log.
+/// A call on a log as its words write it: neither its items nor its place are there yet.
 #[derive(Clone, Copy)]
-pub enum Call<'a> {
+pub enum Request<'a> {
     Open(OpenArgs),
     /// The words after the name, each of which writes an item.
     Log(Words<'a>),
@@ -99,23 +99,27 @@ fn client_line<'a>(first: &[u8], mut words: Words<'a>) -> Option<Command<'a>>
         return words.is_empty().then_some(Command::Exit(client));
     }
     let log = Name::parse(words.next()?)?;
-    let call = verb_of(verb, words)?;
-    Some(Command::Call { client, log, call })
+    let request = verb_of(verb, words)?;
+    Some(Command::Call {
+        client,
+        log,
+        request,
+    })
 }
 
 // The call of this verb with the words after the name of the log.
-fn verb_of<'a>(verb: &[u8], words: Words<'a>) -> Option<Call<'a>>
-    ensures form { IfSome result (λ call. (verb.now ≡ call_word call) × GivesCall (words_left words.entry) call) }
-    ensures none { IfNone result ((call : Call) → verb.now ≡ call_word call → GivesCall (words_left words.entry) call → ⊥) }
+fn verb_of<'a>(verb: &[u8], words: Words<'a>) -> Option<Request<'a>>
+    ensures form { IfSome result (λ request. (verb.now ≡ request_word request) × GivesRequest (words_left words.entry) request) }
+    ensures none { IfNone result ((request : Request) → verb.now ≡ request_word request → GivesRequest (words_left words.entry) request → ⊥) }
 {
     if verb == b"open".as_slice() {
-        Some(Call::Open(open_args(words)?))
+        Some(Request::Open(open_args(words)?))
     } else if verb == b"log".as_slice() {
-        are_items(words).then_some(Call::Log(words))
+        are_items(words).then_some(Request::Log(words))
     } else if verb == b"chunk".as_slice() {
         chunk_of(words)
     } else if verb == b"close".as_slice() {
-        words.is_empty().then_some(Call::Close)
+        words.is_empty().then_some(Request::Close)
     } else {
         None
     }
@@ -145,13 +149,13 @@ fn are_items(words: Words<'_>) -> bool
 }
 
 // The place at which a chunk is to begin, and how many items it may have.
-fn chunk_of(mut words: Words<'_>) -> Option<Call<'_>>
-    ensures form { IfSome result (λ call. (call_word call ≡ codes "chunk") × GivesCall (words_left words.entry) call) }
+fn chunk_of(mut words: Words<'_>) -> Option<Request<'_>>
+    ensures form { IfSome result (λ request. (request_word request ≡ codes "chunk") × GivesRequest (words_left words.entry) request) }
     ensures none { IfNone result ((from : Start) (most : ℕ) → GivesChunk (words_left words.entry) from most → ⊥) }
 {
     let from = start_of(words.next()?)?;
     let most = number(words.next()?)?;
-    words.is_empty().then_some(Call::Chunk { from, most })
+    words.is_empty().then_some(Request::Chunk { from, most })
 }
 
 // The beginning that a word asks for.
@@ -168,34 +172,28 @@ fn start_of(word: &[u8]) -> Option<Start>
     }
 }
 
-/// The event that a call is, or why it is refused before it is one.
-pub fn event_of<A: Allocator + Copy>(
+/// The call that a client's words ask for, or why it is refused before it is one.
+pub fn call_of<A: Allocator + Copy>(
     alloc: A,
     client: ClientId,
     log: Name,
-    call: Call<'_>,
+    request: Request<'_>,
     places: &Places<A>,
-) -> Result<Event<A>, Fail>
-    ensures event { IfOk result (λ event. event ≡ event_in client log call.entry (place_of places.now client log)) }
-    ensures refused { IfSome (refusal_in call.entry) (λ refusal. result ≡ Err (Fail.Refused refusal)) }
-    ensures memory { IfNone (refusal_in call.entry) (IfErr result (λ fail. fail ≡ Fail.OutOfMemory)) }
+) -> Result<Call<A>, Fail>
+    ensures call { IfOk result (λ call. call ≡ call_in request.entry (place_of places.now client log)) }
+    ensures refused { IfSome (refusal_in request.entry) (λ refusal. result ≡ Err (Fail.Refused refusal)) }
+    ensures memory { IfNone (refusal_in request.entry) (IfErr result (λ fail. fail ≡ Fail.OutOfMemory)) }
 {
-    Ok(match call {
-        Call::Open(args) => Event::Open { client, log, args },
-        Call::Log(words) => Event::Log {
-            client,
-            log,
-            items: items_of(alloc, words)?,
-        },
-        Call::Chunk { from, most } => Event::Chunk {
-            client,
-            log,
+    Ok(match request {
+        Request::Open(args) => Call::Open(args),
+        Request::Log(words) => Call::Log(items_of(alloc, words)?),
+        Request::Chunk { from, most } => Call::Chunk {
             from: match from {
                 Start::First => Place::Start,
                 Start::Next => places.next(client, log),
             },
             most,
         },
-        Call::Close => Event::Close { client, log },
+        Request::Close => Call::Close,
     })
 }

@@ -3,20 +3,20 @@ ghost use Rattle.std.specs.Prelude.{◌≡◌, ◌≢◌, ◌+◌, ◌≤◌, �
 ghost use Rattle.std.specs.List.{flat_map};
 ghost use Rattle.std.specs.Io.KnownBytes.{Appends};
 ghost use Rattle.dl_app.specs.Answers.{hex};
-ghost use Rattle.dl_app.specs.Command.{event_in, refusal_in};
+ghost use Rattle.dl_app.specs.Command.{call_in, refusal_in};
 ghost use Rattle.dl_app.specs.Lines.{HasLines};
 ghost use Rattle.dl_app.specs.Places.{place_of};
 ghost use Rattle.dl_app.specs.Script.{HasNoForm, IsBadLine, IsCalled, IsLine, IsStepped, Runs, RunsOn, ShowsFile};
 ghost use Rattle.dl_app.specs.Session.{stage_of, IsAnswerFault};
 
 use crate::answer::{push_hex, put_outcome, put_refusal};
-use crate::command::{Call, Command, command_of, event_of, is_passed_over};
+use crate::command::{Command, Request, call_of, command_of, is_passed_over};
 use crate::fault::ScriptFault;
 use crate::lines::{LINES_LIMIT, NextLine, next_line};
 use crate::places::Places;
 use dl_disk::Disk;
 use dl_hub::{FileFault, Hub};
-use dl_types::{ClientId, Event, Fail, FileName, Name, Outcome, Refusal};
+use dl_types::{Call, ClientId, Event, Fail, FileName, Name, Outcome, Refusal};
 use std::alloc::Allocator;
 use std::io::{BufRead, Write};
 
@@ -111,28 +111,32 @@ impl<A: Allocator + Copy> Session<A> {
         }
         match command_of(line).ok_or(ScriptFault::BadLine(number))? {
             Command::File(file) => show_file(file, &mut self.text, output, hub),
-            Command::Call { client, log, call } => self.call(client, log, call, output, hub),
+            Command::Call {
+                client,
+                log,
+                request,
+            } => self.call(client, log, request, output, hub),
             Command::Exit(client) => self.step(Event::Exit { client }, output, hub),
             Command::Flush => self.step(Event::Flush, output, hub),
         }
     }
 
-    // Does a call of a client on a log.
+    // Does the call that a client asks for on a log.
     fn call<W: Write, D: Disk + Drop>(
         &mut self,
         client: ClientId,
         log: Name,
-        call: Call<'_>,
+        request: Request<'_>,
         output: &mut W,
         hub: &mut Hub<D, A>,
     ) -> Result<(), ScriptFault>
         ensures done { OnOk result ((answer : List ℕ)
-            × IsCalled D.state A (refusal_in call.entry) client log (event_in client log call.entry (place_of self.old.places client log)) (stage_of hub.old self.old) (stage_of hub.new self.new) answer
+            × IsCalled D.state A (refusal_in request.entry) client log (call_in request.entry (place_of self.old.places client log)) (stage_of hub.old self.old) (stage_of hub.new self.new) answer
             × Appends (W.contents output.old) (W.contents output.new) answer) }
         ensures fault { IfErr result IsAnswerFault }
     {
-        match event_of(self.alloc, client, log, call, &self.places) {
-            Ok(event) => self.run_event(client, log, event, output, hub),
+        match call_of(self.alloc, client, log, request, &self.places) {
+            Ok(call) => self.run_call(client, log, call, output, hub),
             Err(Fail::Refused(refusal)) => {
                 put_refusal(&mut self.text, refusal)?;
                 write_answer(self.text.as_slice(), output)
@@ -141,22 +145,22 @@ impl<A: Allocator + Copy> Session<A> {
         }
     }
 
-    // Runs the event of a client on a log.
-    fn run_event<W: Write, D: Disk + Drop>(
+    // Runs the call of a client on a log.
+    fn run_call<W: Write, D: Disk + Drop>(
         &mut self,
         client: ClientId,
         log: Name,
-        event: Event<A>,
+        call: Call<A>,
         output: &mut W,
         hub: &mut Hub<D, A>,
     ) -> Result<(), ScriptFault>
-        ensures done { OnOk result ((answer : List ℕ) × IsCalled D.state A None client log event (stage_of hub.old self.old) (stage_of hub.new self.new) answer
+        ensures done { OnOk result ((answer : List ℕ) × IsCalled D.state A None client log call (stage_of hub.old self.old) (stage_of hub.new self.new) answer
             × Appends (W.contents output.old) (W.contents output.new) answer) }
         ensures fault { IfErr result IsAnswerFault }
     {
         self.outcomes.clear();
         self.events.clear();
-        self.events.push(event)?;
+        self.events.push(Event::Call { client, log, call })?;
         hub.run(self.events.as_slice(), &mut self.outcomes)?;
         let outcome = &self.outcomes[0];
         self.places.keep_after(client, log, &outcome.reply)?;

@@ -1,7 +1,7 @@
 use Rattle.std.proofs.Common.{rules, ◌≡◌, codes}
-use Rattle.dl_app.specs.declared.command.Call.{Call}
-use Rattle.dl_app.specs.declared.command.Call.TheVariants.{Close}
-use Rattle.dl_app.specs.Command.{GivesCall, call_word}
+use Rattle.dl_app.specs.declared.command.Request.{Request}
+use Rattle.dl_app.specs.declared.command.Request.TheVariants.{Close}
+use Rattle.dl_app.specs.Command.{GivesRequest, request_word}
 use Rattle.dl_app.specs.Words.{words_left}
 use Rattle.dl_app.proofs.Forms.{none_holds, none_maps, no_open, no_chunk, where_ended}
 use Rattle.dl_app.proofs.command.verb_of.Goals as goal
@@ -19,5 +19,5 @@ returns-then-eq-3-clause-none c =
 pub returns-then-eq-4-clause-form : goal.returns-then-eq-4-clause-form
 returns-then-eq-4-clause-form c =
     let is : c.args.verb.now ≡ codes "close" = search rules in
-    where_ended (λ (call : Call). (c.args.verb.now ≡ call_word call) × GivesCall (words_left c.args.words) call) Close (words_left c.args.words) (λ ended. (is, ended)) _ c.is_empty.ensures _
+    where_ended (λ (request : Request). (c.args.verb.now ≡ request_word request) × GivesRequest (words_left c.args.words) request) Close (words_left c.args.words) (λ ended. (is, ended)) _ c.is_empty.ensures _
     c.then_some-then-eq-4.ensures

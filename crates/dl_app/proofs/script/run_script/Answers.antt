@@ -1,5 +1,6 @@
-use Rattle.std.proofs.Common.{◌≡◌}
+use Rattle.std.proofs.Common.{rules, ◌≡◌, ◌∙◌, Err, sym}
 use Rattle.dl_types.specs.declared.place.Place.TheVariants.{Start}
+use Rattle.dl_app.specs.declared.fault.ScriptFault.TheVariants.{Write}
 use Rattle.dl_app.specs.Places.{place_of}
 use Rattle.dl_app.proofs.Scripts.{runs_on, whole_on}
 use Rattle.dl_app.proofs.script.run_script.Goals as goal
@@ -28,3 +29,17 @@ returns-clause-unread g c = λ is.
     let runs = runs_on D.state g.row.A.Denot h.0 c.args.hub.now c.run_lines-ended.new.hub (place_of c.new.result) (place_of c.run_lines-ended.new.self.places)
     (g.W.Write.contents c.args.output.now) (g.W.Write.contents c.run_lines-ended.new.output) (g.W.Write.contents c.flush.new.self) start h.4 c.flush.ensures.bytes in
     (h.0, h.1, h.2, h.3, runs)
+
+pub returns-in_err-map_err-clause-bad_line : goal.returns-in_err-map_err-clause-bad_line
+returns-in_err-map_err-clause-bad_line g c = λ k is.
+    let failed : c.from_residual.result ≡ Err Write = search rules in
+    let clash = sym failed ∙ is in
+    let bad : ⊥ = cc in
+    absurd bad
+
+pub returns-in_err-map_err-clause-unread : goal.returns-in_err-map_err-clause-unread
+returns-in_err-map_err-clause-unread g c = λ is.
+    let failed : c.from_residual.result ≡ Err Write = search rules in
+    let clash = sym failed ∙ is in
+    let bad : ⊥ = cc in
+    absurd bad
