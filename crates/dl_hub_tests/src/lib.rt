@@ -7,3 +7,5 @@ mod app;
 mod file;
 #[cfg(test)]
 mod hub;
+#[cfg(test)]
+mod sent;

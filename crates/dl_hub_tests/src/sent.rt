@@ -1,0 +1,26 @@
+// A hub can be sent to another thread, over each of the disks, since a lock will keep it.
+use dl_disk::{FolderDisk, FuseDisk, MemoryDisk};
+use dl_hub::Hub;
+use std::fs::File;
+use std::rt::Files;
+
+fn can_be_sent<T: Send>() {}
+
+fn can_be_sent_over_a_folder<R: Files<File = File> + AllocGlobal + Clone + Drop + Send>(_rt: &R) {
+    can_be_sent::<Hub<FolderDisk<R>>>();
+}
+
+#[test]
+fn a_hub_over_memory_can_be_sent() {
+    can_be_sent::<Hub<MemoryDisk>>();
+}
+
+#[test]
+fn a_hub_over_a_fuse_can_be_sent() {
+    can_be_sent::<Hub<FuseDisk<MemoryDisk>>>();
+}
+
+#[test]
+fn a_hub_over_a_folder_can_be_sent(rt: HostRuntime) {
+    can_be_sent_over_a_folder(&rt);
+}
