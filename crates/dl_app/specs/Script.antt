@@ -63,7 +63,7 @@ module _ {D : Type 0} (state : D → DiskState) where
 
 module _ {D : Type 0} (state : D → DiskState) (Z : Type 0) where
   -- an event is run by itself, and its reply is the answer
-  pub record IsAnswered (event : Event Z) (outcome : Outcome Z) (old new : HubView D) (answer : List ℕ) : Type 0 where
+  pub record AnswersEvent (event : Event Z) (outcome : Outcome Z) (old new : HubView D) (answer : List ℕ) : Type 0 where
     pub run : IsRun state old new (event ∷ []) (outcome ∷ [])
     pub line : IsLineOf (IsReplyText outcome.reply) answer
 
@@ -71,11 +71,11 @@ module _ {D : Type 0} (state : D → DiskState) (Z : Type 0) where
   abbrev pub IsCalled : Option Refusal → ClientId → Name → Call Z → Stage D → Stage D → List ℕ → Type 0
   IsCalled (Some refusal) client log call old new answer = (new ≡ old) × IsLineOf (IsRefusalText refusal) answer
   IsCalled None client log call old new answer =
-      (outcome : Outcome Z) × IsAnswered (event.Call client log call) outcome old.hub new.hub answer × (new.places ≡ places_after outcome.reply client log old.places)
+      (outcome : Outcome Z) × AnswersEvent (event.Call client log call) outcome old.hub new.hub answer × (new.places ≡ places_after outcome.reply client log old.places)
 
   -- an event that is no call was run, and moves no client's place
   abbrev pub IsStepped : Event Z → Stage D → Stage D → List ℕ → Type 0
-  IsStepped event old new answer = (outcome : Outcome Z) × IsAnswered event outcome old.hub new.hub answer × (new.places ≡ old.places)
+  IsStepped event old new answer = (outcome : Outcome Z) × AnswersEvent event outcome old.hub new.hub answer × (new.places ≡ old.places)
 
   -- what a command does
   abbrev pub IsDone : Command → Stage D → Stage D → List ℕ → Type 0
