@@ -1,4 +1,5 @@
 pub mod Numbers
+pub mod Bytes
 pub mod Spaces
 pub mod Forms
 pub mod Written

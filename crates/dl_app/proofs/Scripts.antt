@@ -69,18 +69,6 @@ pub has_first : (a b : Option (List ℕ)) (line : List ℕ) (next : NextLine) �
 has_first a b line next (inl is) read long = let some = has_next a b line (read is) in (line, some.0, some.1)
 has_first a b line next (inr is) read long = let some = long is in (some.0, some.1, some.2)
 
-module _ {D Z : Type 0} (state : D → DiskState) where
-  -- one event has one outcome
-  pub run_one : (old new : HubView D) (events : List (Event Z)) (outcomes : List (Outcome Z)) (before : ℕ) (event : Event Z) (outcome : Outcome Z)
-      → events ≡ event ∷ [] → before ≡ 0 → length outcomes ≡ 1 → outcome ≡ slice_index_or outcomes 0 outcome
-      → IsRun state old new events (drop before outcomes) → IsRun state old new (event ∷ []) (outcome ∷ [])
-  run_one old new events [] before event outcome is none one at run = absurd (omega arith)
-  run_one old new events (o ∷ []) before event outcome is none one at run =
-      subst (λ (p : Outcome Z). IsRun state old new (event ∷ []) (p ∷ [])) (sym at)
-      (subst (λ (es : List (Event Z)). IsRun state old new es (o ∷ [])) is
-      (subst (λ (n : ℕ). IsRun state old new events (drop n (o ∷ []))) none run))
-  run_one old new events (o ∷ p ∷ os) before event outcome is none one at run = absurd (omega arith)
-
 module _ {D : Type 0} (state : D → DiskState) (Z : Type 0) where
   -- a script and a line behind it are a script
   pub script_more : (lines : List (List ℕ)) (old mid new : Stage D) (answers : List ℕ) (line answer : List ℕ) → IsScript state Z lines old mid answers

@@ -43,11 +43,15 @@ fn is_item_byte(byte: u8) -> bool
     byte.is_ascii_alphanumeric() || byte == b'_' || byte == b'-' || byte == b'.'
 }
 
-// Whether all bytes may.
+// Whether all bytes may. All are looked at, so that many are at a time.
 fn are_item_bytes(bytes: &[u8]) -> bool
     ensures { result ≡ list_all is_item_byte bytes.now }
 {
-    bytes.iter().all(|byte| is_item_byte(*byte))
+    let mut all = true;
+    for byte in bytes {
+        all &= is_item_byte(*byte);
+    }
+    all
 }
 
 /// Whether a word writes an item.

@@ -16,7 +16,7 @@ use crate::lines::{LINES_LIMIT, NextLine, next_line};
 use crate::places::Places;
 use dl_disk::Disk;
 use dl_hub::{FileFault, Hub};
-use dl_types::{Call, ClientId, Event, Fail, FileName, Name, Outcome, Refusal};
+use dl_types::{Call, ClientId, Event, Fail, FileName, Name, Refusal};
 use std::alloc::Allocator;
 use std::io::{BufRead, Write};
 
@@ -44,8 +44,6 @@ pub fn run_script<R: BufRead, W: Write, D: Disk + Drop, A: Allocator + Copy>(
     let mut session = Session {
         alloc,
         places: Places::new(alloc),
-        events: Vec::new(alloc),
-        outcomes: Vec::new(alloc),
         text: Vec::new(alloc),
     };
     let ended = session.run_lines(input, output, hub);
@@ -53,13 +51,11 @@ pub fn run_script<R: BufRead, W: Write, D: Disk + Drop, A: Allocator + Copy>(
     ended
 }
 
-// A script under way. The events, the outcomes and the text are those of one line.
+// A script under way. The text is the answer to one line.
 #[derive(Drop)]
 struct Session<A: Allocator + Copy> {
     alloc: A,
     places: Places<A>,
-    events: Vec<Event<A>, A>,
-    outcomes: Vec<Outcome<A>, A>,
     text: Vec<u8, A>,
 }
 
@@ -158,13 +154,9 @@ impl<A: Allocator + Copy> Session<A> {
             × Appends (W.contents output.old) (W.contents output.new) answer) }
         ensures fault { IfErr result IsAnswerFault }
     {
-        self.outcomes.clear();
-        self.events.clear();
-        self.events.push(Event::Call { client, log, call })?;
-        hub.run(self.events.as_slice(), &mut self.outcomes)?;
-        let outcome = &self.outcomes[0];
+        let outcome = hub.step(Event::Call { client, log, call });
         self.places.keep_after(client, log, &outcome.reply)?;
-        put_outcome(&mut self.text, outcome)?;
+        put_outcome(&mut self.text, &outcome)?;
         write_answer(self.text.as_slice(), output)
     }
 

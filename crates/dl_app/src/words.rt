@@ -4,6 +4,7 @@ ghost use Rattle.std.specs.Iterator.{YieldsFirstBy, item_count};
 ghost use Rattle.dl_app.specs.Words.{words_of, words_in, words_left, number_in, client_of, WritesSize};
 
 use dl_types::{ClientId, Size};
+use memchr::memchr;
 
 /// The words of a text, which one space parts. Two spaces in a row have the empty word between them.
 #[derive(Clone, Copy)]
@@ -46,7 +47,7 @@ fn first_space(text: &[u8]) -> Option<usize>
     ensures value { result ≡ position (λ b. b == 32) text.now }
     ensures within { IfSome result (λ end. end < length text.now) }
 {
-    text.iter().position(|byte| *byte == b' ')
+    memchr(b' ', text)
 }
 
 // The first word, and the text after its space if it has one.
