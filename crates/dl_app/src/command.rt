@@ -115,7 +115,10 @@ fn verb_of<'a>(verb: &[u8], words: Words<'a>) -> Option<Request<'a>>
     if verb == b"open".as_slice() {
         Some(Request::Open(open_args(words)?))
     } else if verb == b"log".as_slice() {
-        are_items(words).then_some(Request::Log(words))
+        if !are_items(words) {
+            return None;
+        }
+        Some(Request::Log(words))
     } else if verb == b"chunk".as_slice() {
         chunk_of(words)
     } else if verb == b"close".as_slice() {
@@ -177,14 +180,14 @@ pub fn call_of<A: Allocator + Copy>(
     alloc: A,
     client: ClientId,
     log: Name,
-    request: Request<'_>,
+    request: &Request<'_>,
     places: &Places<A>,
 ) -> Result<Call<A>, Fail>
-    ensures call { IfOk result (λ call. call ≡ call_in request.entry (place_of places.now client log)) }
-    ensures refused { IfSome (refusal_in request.entry) (λ refusal. result ≡ Err (Fail.Refused refusal)) }
-    ensures memory { IfNone (refusal_in request.entry) (IfErr result (λ fail. fail ≡ Fail.OutOfMemory)) }
+    ensures call { IfOk result (λ call. call ≡ call_in request.now (place_of places.now client log)) }
+    ensures refused { IfSome (refusal_in request.now) (λ refusal. result ≡ Err (Fail.Refused refusal)) }
+    ensures memory { IfNone (refusal_in request.now) (IfErr result (λ fail. fail ≡ Fail.OutOfMemory)) }
 {
-    Ok(match request {
+    Ok(match *request {
         Request::Open(args) => Call::Open(args),
         Request::Log(words) => Call::Log(items_of(alloc, words)?),
         Request::Chunk { from, most } => Call::Chunk {

@@ -10,6 +10,13 @@ use crate::words::{Words, number};
 use dl_types::{Argument, Fail, ITEM_LIMIT, Item, Items, Refusal};
 use std::alloc::Allocator;
 
+// The bytes of items, each at its own place among stars.
+static ITEM_BYTES: [u8; 256] = *b"\
+    *********************************************-.*0123456789******\
+    *ABCDEFGHIJKLMNOPQRSTUVWXYZ****_*abcdefghijklmnopqrstuvwxyz*****\
+    ****************************************************************\
+    ****************************************************************";
+
 // What a word of an item says.
 #[derive(Clone, Copy)]
 enum Written<'a> {
@@ -40,18 +47,14 @@ fn read_word(word: &[u8]) -> Written<'_>
 fn is_item_byte(byte: u8) -> bool
     ensures { result ≡ is_item_byte byte }
 {
-    byte.is_ascii_alphanumeric() || byte == b'_' || byte == b'-' || byte == b'.'
+    ITEM_BYTES[byte as usize] != b'*'
 }
 
-// Whether all bytes may. All are looked at, so that many are at a time.
+// Whether all bytes may.
 fn are_item_bytes(bytes: &[u8]) -> bool
     ensures { result ≡ list_all is_item_byte bytes.now }
 {
-    let mut all = true;
-    for byte in bytes {
-        all &= is_item_byte(*byte);
-    }
-    all
+    bytes.iter().all(|byte| is_item_byte(*byte))
 }
 
 /// Whether a word writes an item.

@@ -105,13 +105,16 @@ impl<A: Allocator + Copy> Session<A> {
         if is_passed_over(line) {
             return Ok(());
         }
-        match command_of(line).ok_or(ScriptFault::BadLine(number))? {
+        let Some(command) = command_of(line) else {
+            return Err(ScriptFault::BadLine(number));
+        };
+        match command {
             Command::File(file) => show_file(file, &mut self.text, output, hub),
             Command::Call {
                 client,
                 log,
                 request,
-            } => self.call(client, log, request, output, hub),
+            } => self.call(client, log, &request, output, hub),
             Command::Exit(client) => self.step(Event::Exit { client }, output, hub),
             Command::Flush => self.step(Event::Flush, output, hub),
         }
@@ -122,12 +125,12 @@ impl<A: Allocator + Copy> Session<A> {
         &mut self,
         client: ClientId,
         log: Name,
-        request: Request<'_>,
+        request: &Request<'_>,
         output: &mut W,
         hub: &mut Hub<D, A>,
     ) -> Result<(), ScriptFault>
         ensures done { OnOk result ((answer : List ℕ)
-            × IsCalled D.state A (refusal_in request.entry) client log (call_in request.entry (place_of self.old.places client log)) (stage_of hub.old self.old) (stage_of hub.new self.new) answer
+            × IsCalled D.state A (refusal_in request.now) client log (call_in request.now (place_of self.old.places client log)) (stage_of hub.old self.old) (stage_of hub.new self.new) answer
             × Appends (W.contents output.old) (W.contents output.new) answer) }
         ensures fault { IfErr result IsAnswerFault }
     {

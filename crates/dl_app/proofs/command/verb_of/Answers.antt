@@ -20,4 +20,4 @@ pub returns-then-eq-4-clause-form : goal.returns-then-eq-4-clause-form
 returns-then-eq-4-clause-form c =
     let is : c.args.verb.now ≡ codes "close" = search rules in
     where_ended (λ (request : Request). (c.args.verb.now ≡ request_word request) × GivesRequest (words_left c.args.words) request) Close (words_left c.args.words) (λ ended. (is, ended)) _ c.is_empty.ensures _
-    c.then_some-then-eq-4.ensures
+    c.then_some.ensures
