@@ -1,13 +1,10 @@
 -- Scripts, and one line more.
-use Rattle.std.proofs.Common.{◌≡◌, ◌≤◌, ℕ, List, [], ◌∷◌, ◌++◌, Option, Some, None, Result, Ok, Err, OnOk, IfSome, IfNone, length, drop, slice_index_or, refl, sym, ap, subst, ◌∙◌, append_assoc, append-nil, arith, ◌⊎◌, inl, inr}
+use Rattle.std.proofs.Common.{◌≡◌, ◌≤◌, ℕ, List, [], ◌∷◌, ◌++◌, Option, Some, None, Result, Ok, Err, OnOk, IfSome, IfNone, length, refl, sym, ap, subst, ◌∙◌, append_assoc, append-nil, ◌⊎◌, inl, inr}
 use Rattle.std.specs.Io.KnownBytes.{Appends, Keeps}
-use Rattle.dl_types.specs.declared.event.Event.{Event}
 use Rattle.dl_types.specs.declared.refusal.Fail.{Fail}
 use Rattle.dl_types.specs.declared.refusal.Fail.TheVariants.{Refused, OutOfMemory}
 use Rattle.dl_types.specs.declared.refusal.Refusal.{Refusal}
-use Rattle.dl_types.specs.declared.reply.Outcome.{Outcome}
 use Rattle.dl_hub.specs.View.{HubView}
-use Rattle.dl_hub.specs.Run.{IsRun}
 use Rattle.dl_types.specs.declared.name.ClientId.{ClientId}
 use Rattle.dl_types.specs.declared.name.Name.{Name}
 use Rattle.dl_types.specs.declared.place.Place.{Place}
