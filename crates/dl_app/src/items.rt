@@ -115,19 +115,32 @@ fn is_any_too_long(words: Words<'_>) -> bool
     false
 }
 
-/// Makes the items of one call. What is refused takes no memory.
+// Why the items of some words are not made: one is too long, or else memory is refused.
+fn failure_of(words: Words<'_>) -> Fail
+    requires some { 0 < length (words_left words) }
+    ensures refused { IfSome (refusal_of (words_left words.entry)) (λ refusal. result ≡ Fail.Refused refusal) }
+    ensures memory { IfNone (refusal_of (words_left words.entry)) (result ≡ Fail.OutOfMemory) }
+{
+    if is_any_too_long(words) {
+        return Fail::Refused(Refusal::BadArg(Argument::Item));
+    }
+    Fail::OutOfMemory
+}
+
+/// Makes the items of one call. Those of a call that is refused are dropped.
 pub fn items_of<A: Allocator + Copy>(alloc: A, words: Words<'_>) -> Result<Items<A>, Fail>
     ensures same { IfOk result (λ items. items ≡ map item_bytes (words_left words.entry)) }
     ensures refused { IfSome (refusal_of (words_left words.entry)) (λ refusal. result ≡ Err (Fail.Refused refusal)) }
     ensures memory { IfNone (refusal_of (words_left words.entry)) (IfErr result (λ fail. fail ≡ Fail.OutOfMemory)) }
 {
-    if is_any_too_long(words) {
-        return Err(Fail::Refused(Refusal::BadArg(Argument::Item)));
-    }
     let mut items = Vec::new(alloc);
     for word in words {
-        let item = item_of(alloc, word)?;
-        items.push(item).map_err(|_| Fail::OutOfMemory)?;
+        let Ok(item) = item_of(alloc, word) else {
+            return Err(failure_of(words));
+        };
+        let Ok(()) = items.push(item) else {
+            return Err(failure_of(words));
+        };
     }
     Items::of(items).map_err(Fail::Refused)
 }
