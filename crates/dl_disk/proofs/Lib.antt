@@ -1,3 +1,4 @@
 pub mod Maps
 pub mod Acts
 pub mod FaultCounts
+pub mod Kept

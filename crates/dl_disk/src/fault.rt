@@ -1,4 +1,6 @@
 // Why a call of a disk failed.
+use std::alloc::AllocError;
+use std::fs::TryLockError;
 use std::io;
 use thiserror::Error;
 
@@ -22,5 +24,47 @@ impl From<io::Error> for ListFault {
             io::ErrorKind::OutOfMemory => ListFault::OutOfMemory,
             _ => ListFault::Device,
         }
+    }
+}
+
+/// Why a folder was not opened as a disk.
+#[derive(Clone, Copy, Debug, PartialEq, Eq, Error)]
+pub enum OpenFault {
+    /// Another disk over the folder is open, in this program or another.
+    #[error("in use")]
+    InUse,
+    #[error("device fault")]
+    Device,
+    #[error("out of memory")]
+    OutOfMemory,
+}
+
+impl From<io::Error> for OpenFault {
+    fn from(error: io::Error) -> OpenFault {
+        OpenFault::from(ListFault::from(error))
+    }
+}
+
+impl From<TryLockError> for OpenFault {
+    fn from(error: TryLockError) -> OpenFault {
+        match error {
+            TryLockError::WouldBlock => OpenFault::InUse,
+            TryLockError::Error(error) => OpenFault::from(error),
+        }
+    }
+}
+
+impl From<ListFault> for OpenFault {
+    fn from(fault: ListFault) -> OpenFault {
+        match fault {
+            ListFault::Device => OpenFault::Device,
+            ListFault::OutOfMemory => OpenFault::OutOfMemory,
+        }
+    }
+}
+
+impl From<AllocError> for OpenFault {
+    fn from(_error: AllocError) -> OpenFault {
+        OpenFault::OutOfMemory
     }
 }

@@ -10,7 +10,7 @@ mod fuse;
 mod memory;
 
 pub use disk::Disk;
-pub use fault::{Fault, ListFault};
+pub use fault::{Fault, ListFault, OpenFault};
 pub use files::copy_from;
 pub use folder::FolderDisk;
 pub use fuse::{Fuse, FuseDisk};

@@ -9,7 +9,7 @@ use anyhow::Result;
 use clap::error::ErrorKind;
 use clap::{Arg, ArgMatches, Command, Error, value_parser};
 use dl_app::{ScriptFault, run_script};
-use dl_disk::{Disk, FolderDisk, ListFault, MemoryDisk};
+use dl_disk::{Disk, FolderDisk, MemoryDisk, OpenFault};
 use dl_hub::Hub;
 use std::alloc::{AllocError, Global};
 use std::fmt::Display;
@@ -88,14 +88,15 @@ fn run(rt: &HostRuntime, options: &ArgMatches<'_>) -> ExitCode {
     };
     match open_folder(rt, path) {
         Ok(disk) => run_over(rt, disk, blocks),
-        Err(ListFault::Device) => tell(rt, "folder", FAILED),
-        Err(ListFault::OutOfMemory) => tell(rt, ScriptFault::OutOfMemory, FAILED),
+        Err(OpenFault::InUse) => tell(rt, "folder\nanother program uses it", FAILED),
+        Err(OpenFault::Device) => tell(rt, "folder", FAILED),
+        Err(OpenFault::OutOfMemory) => tell(rt, ScriptFault::OutOfMemory, FAILED),
     }
 }
 
 // The disk over the folder at this path.
-fn open_folder(rt: &HostRuntime, path: &str) -> Result<FolderDisk<HostRuntime>, ListFault> {
-    let own = rt.clone().map_err(|_| ListFault::OutOfMemory)?;
+fn open_folder(rt: &HostRuntime, path: &str) -> Result<FolderDisk<HostRuntime>, OpenFault> {
+    let own = rt.clone().map_err(|_| OpenFault::OutOfMemory)?;
     FolderDisk::open(own, path)
 }
 

@@ -4,7 +4,7 @@ use crate::answer::bytes_of;
 use crate::case::Step;
 use crate::fault::{CaseFault, How};
 use crate::script::run_lines;
-use dl_disk::{FolderDisk, Fuse, FuseDisk, ListFault, MemoryDisk};
+use dl_disk::{FolderDisk, Fuse, FuseDisk, MemoryDisk, OpenFault};
 use dl_hub::Hub;
 use std::alloc::Global;
 use std::fs;
@@ -189,7 +189,7 @@ fn live_in_folder(
 fn open_folder(rt: &HostRuntime, path: Path<'_>) -> Result<FolderDisk<HostRuntime>, CaseFault> {
     let own = rt.clone()?;
     FolderDisk::open(own, path.as_str()).map_err(|fault| match fault {
-        ListFault::Device => CaseFault::Folder,
-        ListFault::OutOfMemory => CaseFault::OutOfMemory,
+        OpenFault::InUse | OpenFault::Device => CaseFault::Folder,
+        OpenFault::OutOfMemory => CaseFault::OutOfMemory,
     })
 }

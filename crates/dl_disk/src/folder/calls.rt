@@ -1,38 +1,51 @@
 // The calls of the system on the files of one folder.
-ghost use Rattle.std.specs.Prelude.{◌≡◌, ◌≤◌, IfOk, OnOk, length};
+ghost use Rattle.std.specs.Prelude.{◌≡◌, ◌≤◌, ◌+◌, ℕ, [], max, length, Ok, Some, IfSome, IfOk, OnOk, OnErr};
 ghost use Rattle.std.specs.Path.{path_buf_bytes, path_join};
 ghost use Rattle.dl_types.specs.declared.file.FileName.{FileName};
 ghost use Rattle.dl_types.specs.Printed.{printed_file};
-ghost use Rattle.dl_disk.specs.Folder.{IsClosed, IsKept, draft_name};
+ghost use Rattle.dl_disk.specs.Folder.{IsClosed, IsKept, draft_name, known_length};
 
+use super::kept::Kept;
 use super::opened::{Access, Opened, length_at};
-use crate::fault::ListFault;
+use crate::fault::{ListFault, OpenFault};
 use dl_types::FileName;
 use std::alloc::Allocator;
 use std::fs::{DirEntry, File};
 use std::io::{ErrorKind, Write};
-use std::os::unix::fs::FileExt;
-use std::path::PathBuf;
+use std::path::{Path, PathBuf};
 use std::rt::Files;
 use std::{fs, io};
+
+// The system's numbers of an open that is refused since too many files are open, in all programs or in this one.
+const TOO_MANY_OPEN: [i32; 2] = [23, 24];
 
 /// A folder of the system.
 #[derive(Drop)]
 pub(crate) struct Folder<R: Files<File = File> + AllocGlobal + Clone + Drop> {
     rt: R,
     path: PathBuf,
-    // The file that was used last: so calls on one file, one after another, open it once.
-    last: Option<Opened>,
+    // The folder itself, open and locked.
+    own: File,
+    kept: Kept,
 }
 
 impl<R: Files<File = File> + AllocGlobal + Clone + Drop> Folder<R> {
-    /// The folder at this path, which is not looked at yet.
-    pub(crate) fn at(rt: R, path: &str) -> io::Result<Folder<R>> {
+    /// Opens the folder at this path and locks it, until this is dropped.
+    pub(crate) fn open(rt: R, path: &str) -> Result<Folder<R>, OpenFault>
+        ensures { IfOk result (λ folder. folder.kept.files.entries ≡ []) }
+    {
         let path = PathBuf::from_str(rt.alloc(), path)?;
+        if !fs::metadata(&rt, path.as_path())?.is_dir() {
+            return Err(OpenFault::Device);
+        }
+        let own = File::open(&rt, path.as_path())?;
+        own.try_lock()?;
+        let kept = Kept::new(rt.alloc())?;
         Ok(Folder {
             rt,
             path,
-            last: None,
+            own,
+            kept,
         })
     }
 
@@ -52,46 +65,50 @@ impl<R: Files<File = File> + AllocGlobal + Clone + Drop> Folder<R> {
         Ok(self.path.join(self.rt.alloc(), name.as_str())?)
     }
 
-    // Opens the file of this name, unless it is the one that is kept open.
+    // Opens what stands at a path. Where too many files are open for that, those that are kept are closed, the least
+    // recently used one first.
+    fn open_at(&mut self, path: Path<'_>, access: Access) -> io::Result<File>
+        ensures { (other : FileName) → IsClosed self.old.kept.files.entries other → IsClosed self.new.kept.files.entries other }
+    {
+        let mut answer = access.open(&self.rt, path);
+        'crowded: while is_crowded(&answer) && self.kept.close_oldest() {
+            answer = access.open(&self.rt, path);
+        }
+        answer
+    }
+
+    // Opens the file of this name, unless it is kept open for that.
     fn keep_open(&mut self, name: FileName, access: Access) -> io::Result<()>
-        ensures { OnOk result (IsKept self.new.last name) }
+        ensures ok { OnOk result (IsKept self.new.kept.files.entries name) }
+        ensures err { OnErr result (IsClosed self.new.kept.files.entries name) }
     {
-        if let Some(last) = &self.last {
-            if last.serves(name, access) {
-                return Ok(());
-            }
+        if self.kept.serves(name, access) {
+            return Ok(());
         }
+        self.kept.close(name);
         let path = self.path_of(name)?;
-        self.last = Some(Opened::open(&self.rt, path.as_path(), name, access)?);
-        Ok(())
-    }
-
-    // The file of this name, which is kept open from here on.
-    fn opened(&mut self, name: FileName, access: Access) -> io::Result<&File> {
-        self.keep_open(name, access)?;
-        match &self.last {
-            Some(last) => Ok(&last.file),
-            None => unreachable!(),
-        }
-    }
-
-    // Closes the file of this name, so that the next call opens what then has the name.
-    fn close(&mut self, name: FileName)
-        ensures closed { IsClosed self.new.last name }
-        ensures others { (other : FileName) → IsClosed self.old.last other → IsClosed self.new.last other }
-    {
-        if self.last.as_ref().is_some_and(|last| last.is_named(name)) {
-            self.last = None;
-        }
+        let length = length_at(&self.rt, path.as_path())?;
+        let file = self.open_at(path.as_path(), access)?;
+        self.kept.add(Opened {
+            name,
+            access,
+            length,
+            file,
+        })
     }
 
     // Makes the names of the folder last.
     fn sync_names(&self) -> io::Result<()> {
-        File::open(&self.rt, self.path.as_path())?.sync_all()
+        self.own.sync_all()
     }
 
     /// The length of a file in bytes.
-    pub(crate) fn size(&self, file: FileName) -> io::Result<Option<u64>> {
+    pub(crate) fn size(&self, file: FileName) -> io::Result<Option<u64>>
+        ensures { IfSome (known_length self.now.kept.files.entries file) (λ n. result ≡ Ok (Some n)) }
+    {
+        if let Some(length) = self.kept.length_of(file) {
+            return Ok(Some(length));
+        }
         let path = self.path_of(file)?;
         if_there(length_at(&self.rt, path.as_path()))
     }
@@ -105,34 +122,32 @@ impl<R: Files<File = File> + AllocGlobal + Clone + Drop> Folder<R> {
     ) -> io::Result<usize>
         ensures { IfOk result (λ n. n ≤ length buffer.old) }
     {
-        let Some(opened) = if_there(self.opened(file, Access::Read))? else {
-            return Ok(0);
-        };
-        let left = opened.metadata()?.len().saturating_sub(at);
-        let count = left.min(buffer.len() as u64) as usize;
-        opened.read_exact_at(&mut buffer[..count], at)?;
-        Ok(count)
+        match if_there(self.keep_open(file, Access::Read))? {
+            Some(()) => self.kept.read_at(file, at, buffer),
+            None => Ok(0),
+        }
     }
 
     /// Writes over the bytes from an offset on that the file has, and past its end.
-    pub(crate) fn write_at(&mut self, file: FileName, at: u64, bytes: &[u8]) -> io::Result<()> {
-        let opened = self.opened(file, Access::Change)?;
-        if at > opened.metadata()?.len() {
-            return Err(ErrorKind::InvalidInput.into());
-        }
-        opened.write_all_at(bytes, at)
+    pub(crate) fn write_at(&mut self, file: FileName, at: u64, bytes: &[u8]) -> io::Result<()>
+        ensures ok { OnOk result ((was : ℕ) × (at ≤ was)
+            × (known_length self.new.kept.files.entries file ≡ Some (max was (at + length bytes.now)))) }
+        ensures err { OnErr result (IsClosed self.new.kept.files.entries file) }
+    {
+        self.keep_open(file, Access::Change)?;
+        self.kept.write_at(file, at, bytes)
     }
 
     /// Puts a whole file in the place of what was there. A stop leaves the one or the other.
     pub(crate) fn put(&mut self, file: FileName, bytes: &[u8]) -> io::Result<()>
-        ensures { IsClosed self.new.last file }
+        ensures { IsClosed self.new.kept.files.entries file }
     {
-        self.close(file);
+        self.kept.close(file);
         self.size(file)?;
         let path = self.path_of(file)?;
         let draft = self.draft_of(file)?;
         if_there(fs::remove_file(&self.rt, draft.as_path()))?;
-        let opened = File::create_new(&self.rt, draft.as_path())?;
+        let opened = self.open_at(draft.as_path(), Access::Draft)?;
         let put = write_whole(opened, bytes).and_then(|()| fs::rename(
             &self.rt,
             draft.as_path(),
@@ -146,20 +161,21 @@ impl<R: Files<File = File> + AllocGlobal + Clone + Drop> Folder<R> {
     }
 
     /// Cuts a file off at a length that it has.
-    pub(crate) fn cut(&mut self, file: FileName, size: u64) -> io::Result<()> {
-        let opened = self.opened(file, Access::Change)?;
-        if size > opened.metadata()?.len() {
-            return Err(ErrorKind::InvalidInput.into());
-        }
-        opened.set_len(size)
+    pub(crate) fn cut(&mut self, file: FileName, size: u64) -> io::Result<()>
+        ensures ok { OnOk result (known_length self.new.kept.files.entries file ≡ Some size) }
+        ensures err { OnErr result (IsClosed self.new.kept.files.entries file) }
+    {
+        self.keep_open(file, Access::Change)?;
+        self.kept.cut(file, size)
     }
 
     /// Gives a file another name, in the place of what had it.
     pub(crate) fn rename(&mut self, from: FileName, to: FileName) -> io::Result<()>
-        ensures { IsClosed self.new.last from × IsClosed self.new.last to }
+        ensures from { IsClosed self.new.kept.files.entries from }
+        ensures to { IsClosed self.new.kept.files.entries to }
     {
-        self.close(from);
-        self.close(to);
+        self.kept.close(from);
+        self.kept.close(to);
         self.size(from)?;
         self.size(to)?;
         let old = self.path_of(from)?;
@@ -170,9 +186,9 @@ impl<R: Files<File = File> + AllocGlobal + Clone + Drop> Folder<R> {
 
     /// Removes a file, if there is one.
     pub(crate) fn remove(&mut self, file: FileName) -> io::Result<()>
-        ensures { IsClosed self.new.last file }
+        ensures { IsClosed self.new.kept.files.entries file }
     {
-        self.close(file);
+        self.kept.close(file);
         if self.size(file)?.is_none() {
             return Ok(());
         }
@@ -182,19 +198,37 @@ impl<R: Files<File = File> + AllocGlobal + Clone + Drop> Folder<R> {
     }
 
     /// Makes what was written to a file last.
-    pub(crate) fn sync(&mut self, file: FileName) -> io::Result<()> {
-        self.opened(file, Access::Read)?.sync_data()
+    pub(crate) fn sync(&mut self, file: FileName) -> io::Result<()>
+        ensures { OnErr result (IsClosed self.new.kept.files.entries file) }
+    {
+        self.keep_open(file, Access::Read)?;
+        self.kept.sync(file)
     }
 
     /// The names of the files that are there.
-    pub(crate) fn names<A: Allocator>(&self, alloc: A) -> Result<Vec<FileName, A>, ListFault> {
+    pub(crate) fn names<A: Allocator>(&mut self, alloc: A) -> Result<Vec<FileName, A>, ListFault> {
         let mut names = Vec::new(alloc);
-        for entry in fs::read_dir(&self.rt, self.path.as_path())? {
+        let mut entries = fs::read_dir(&self.rt, self.path.as_path());
+        if is_crowded(&entries) && self.kept.close_oldest() {
+            entries = fs::read_dir(&self.rt, self.path.as_path());
+        }
+        for entry in entries? {
             if let Some(name) = name_of(entry)? {
                 names.push(name).map_err(|_| ListFault::OutOfMemory)?;
             }
         }
         Ok(names)
+    }
+}
+
+// Whether an open was refused since too many files are open.
+fn is_crowded<T>(answer: &io::Result<T>) -> bool {
+    match answer {
+        Ok(_) => false,
+        Err(error) => match error.raw_os_error() {
+            Some(code) => TOO_MANY_OPEN.contains(&code),
+            None => false,
+        },
     }
 }
 

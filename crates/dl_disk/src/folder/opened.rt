@@ -1,57 +1,88 @@
-// A file that is open, by its name.
-ghost use Rattle.std.specs.Prelude.{◌≡◌, ◌↔◌, IfOk, IsTrue};
-ghost use Rattle.dl_types.specs.FileName.{same_file};
+// A file that is open, by its name and with its length.
+ghost use Rattle.std.specs.Prelude.{◌≡◌, ◌≤◌, ◌+◌, max, length, IfOk, OnOk, OnErr, IsTrue};
 
 use dl_types::FileName;
 use std::fs::{File, Files, OpenOptions, metadata};
 use std::io;
+use std::io::ErrorKind;
+use std::os::unix::fs::FileExt;
 use std::path::Path;
 
-/// What a file is opened for.
+/// What a file is opened for. A draft is made anew.
 #[derive(Clone, Copy, PartialEq, Eq)]
 pub(crate) enum Access {
     Read,
     Change,
+    Draft,
 }
 
-/// A file that was opened under its name.
+impl Access {
+    /// Opens the file at a path.
+    pub(crate) fn open<R: Files<File = File>>(self, rt: &R, path: Path<'_>) -> io::Result<File> {
+        OpenOptions::new()
+            .read(true)
+            .write(self != Access::Read)
+            .create_new(self == Access::Draft)
+            .open(rt, path)
+    }
+}
+
+/// A file that was opened under its name, and its length in bytes.
 #[derive(Drop)]
 pub(crate) struct Opened {
-    name: FileName,
-    access: Access,
+    pub(crate) name: FileName,
+    pub(crate) access: Access,
+    pub(crate) length: u64,
     pub(crate) file: File,
 }
 
 impl Opened {
-    /// Opens the file at a path. Anything else that stands there, as a pipe, is not opened.
-    pub(crate) fn open<R: Files<File = File>>(
-        rt: &R,
-        path: Path<'_>,
-        name: FileName,
-        access: Access,
-    ) -> io::Result<Opened>
-        ensures { IfOk result (λ opened. (opened.name ≡ name) × (opened.access ≡ access)) }
-    {
-        length_at(rt, path)?;
-        let file = OpenOptions::new()
-            .read(true)
-            .write(access == Access::Change)
-            .open(rt, path)?;
-        Ok(Opened { name, access, file })
-    }
-
     /// Whether this is the file of that name, and open for that.
     pub(crate) fn serves(&self, name: FileName, access: Access) -> bool
-        ensures { IsTrue result → IsTrue (same_file self.now.name name) }
+        ensures { IsTrue result → self.now.name ≡ name }
     {
         self.name == name && (self.access == Access::Change || access == Access::Read)
     }
 
-    /// Whether this is the file of that name.
-    pub(crate) fn is_named(&self, name: FileName) -> bool
-        ensures { result ≡ same_file self.now.name name }
+    /// Reads as many bytes as the buffer takes and the file has.
+    pub(crate) fn read_at(&self, at: u64, buffer: &mut [u8]) -> io::Result<usize>
+        ensures { IfOk result (λ n. n ≤ length buffer.old) }
     {
-        self.name == name
+        let left = self.length.saturating_sub(at);
+        let count = left.min(buffer.len() as u64) as usize;
+        self.file.read_exact_at(&mut buffer[..count], at)?;
+        Ok(count)
+    }
+
+    /// Writes over the bytes from an offset on that the file has, and past its end.
+    pub(crate) fn write_at(&mut self, at: u64, bytes: &[u8]) -> io::Result<()>
+        ensures ok { OnOk result ((at ≤ self.old.length) × (self.new.length ≡ max self.old.length (at + length bytes.now))) }
+        ensures err { OnErr result (self.new.length ≡ self.old.length) }
+        ensures name { self.new.name ≡ self.old.name }
+    {
+        let Some(end) = at.checked_add(bytes.len() as u64) else {
+            return Err(ErrorKind::InvalidInput.into());
+        };
+        if at > self.length {
+            return Err(ErrorKind::InvalidInput.into());
+        }
+        self.file.write_all_at(bytes, at)?;
+        self.length = self.length.max(end);
+        Ok(())
+    }
+
+    /// Cuts the file off at a length that it has.
+    pub(crate) fn cut(&mut self, size: u64) -> io::Result<()>
+        ensures ok { OnOk result ((size ≤ self.old.length) × (self.new.length ≡ size)) }
+        ensures err { OnErr result (self.new.length ≡ self.old.length) }
+        ensures name { self.new.name ≡ self.old.name }
+    {
+        if size > self.length {
+            return Err(ErrorKind::InvalidInput.into());
+        }
+        self.file.set_len(size)?;
+        self.length = size;
+        Ok(())
     }
 }
 
@@ -61,6 +92,6 @@ pub(crate) fn length_at<R: Files>(rt: &R, path: Path<'_>) -> io::Result<u64> {
     if found.is_file() {
         Ok(found.len())
     } else {
-        Err(io::ErrorKind::Unsupported.into())
+        Err(ErrorKind::Unsupported.into())
     }
 }

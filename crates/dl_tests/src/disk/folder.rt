@@ -1,6 +1,6 @@
 // A disk over a folder of the system, call by call, beside a disk in memory.
 use super::rig::{Call, Rig, Row, TEXT, queue};
-use dl_disk::{Disk, Fault, FolderDisk, ListFault};
+use dl_disk::{Disk, Fault, FolderDisk, OpenFault};
 use dl_types::Part;
 use std::alloc::{AllocError, Global};
 use std::path::PathBuf;
@@ -176,8 +176,31 @@ fn a_path_that_is_no_folder_is_refused(rt: HostRuntime) -> Result<(), Fail> {
     let plain = place.at("plain")?;
     for text in [missing.as_str(), plain.as_str(), ""] {
         let disk = FolderDisk::open(rt.clone()?, text);
-        assert!(rt; matches!(disk, Err(ListFault::Device)), "{text:?}");
+        assert!(rt; matches!(disk, Err(OpenFault::Device)), "{text:?}");
     }
+    place.clear()?;
+    Ok(())
+}
+
+// Whether the folder is refused as in use.
+fn is_in_use(place: &Place) -> Result<bool, Fail> {
+    let disk = FolderDisk::open(place.rt.clone()?, place.path.as_str());
+    Ok(matches!(disk, Err(OpenFault::InUse)))
+}
+
+// Whether the folder is refused while a disk over it is open, which goes on.
+fn is_refused_meanwhile(place: &Place) -> Result<bool, Fail> {
+    let mut first = place.disk()?;
+    let refused = is_in_use(place)?;
+    let wrong = first.first_wrong(&[(Part::Halt, Call::Put(TEXT), true)])?;
+    Ok(refused && wrong.is_none() && place.holds_text()?)
+}
+
+#[test]
+fn a_folder_has_one_disk_at_a_time(rt: HostRuntime) -> Result<(), Fail> {
+    let place = Place::new(&rt, "locked")?;
+    assert!(rt; is_refused_meanwhile(&place)?);
+    assert!(rt; !is_in_use(&place)?);
     place.clear()?;
     Ok(())
 }

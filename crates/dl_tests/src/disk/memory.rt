@@ -32,3 +32,19 @@ fn names_that_have_no_room_are_out_of_memory(rt: HostRuntime) -> Result<(), Fail
     assert!(rt; want_more(&mut rig.disk, &heap));
     Ok(())
 }
+
+// Whether a disk has seen no longer read than of four bytes once its file was read.
+fn knows_the_longest(rig: &mut Rig<MemoryDisk>) -> Result<bool, Fail> {
+    let before = rig.disk.longest();
+    rig.look(Part::Halt, 3)?;
+    let _ = rig.call(Part::Halt, Call::Sync)?;
+    let _ = rig.look(Part::Index, 0)?;
+    Ok(before == 0 && rig.disk.longest() == 4 && rig.disk.copy()?.longest() == 4)
+}
+
+#[test]
+fn the_longest_read_is_remembered(rt: HostRuntime) -> Result<(), Fail> {
+    let mut rig = Rig::with_text(rt.alloc())?;
+    assert!(rt; knows_the_longest(&mut rig)?);
+    Ok(())
+}

@@ -1,0 +1,33 @@
+-- Look-ups of kept files, after an edit of their list.
+use Rattle.std.proofs.Common.{◌≡◌, Bool, List, Contains, Option, Some, None, IsSome, cond, ◌∙◌, ap}
+use Rattle.std.specs.Cmp.{IsEquivalence}
+use Rattle.std.specs.List.{IsDistinct}
+use Rattle.std.specs.Map.{lookup, keys_of, remove_entry, set_value}
+use Rattle.std.proofs.lemmas.Map.{lookup-none, none_passes_from_lookup, lookup-remove_entry, lookup-set_value}
+use Rattle.lru.proofs.Splits.{all_at, all_from}
+use Rattle.dl_types.specs.declared.file.FileName.{FileName}
+use Rattle.dl_types.specs.contracts.file.FileNamePartialEq.TheImpl.{ghosts as file_ghosts}
+use Rattle.dl_types.proofs.Keys.{decides_laws, file_eq_decides}
+
+abbrev pub eq : FileName → FileName → Bool
+eq = file_ghosts.eq
+
+pub laws : IsEquivalence eq
+laws = decides_laws eq file_eq_decides
+
+module _ {X : Type 0} (name : FileName) where
+  -- a list with no further entries has no name more
+  pub closed_within : (es fs : List (FileName × X)) → ((e : FileName × X) → Contains fs e → Contains es e) → lookup (eq name) es ≡ None → lookup (eq name) fs ≡ None
+  closed_within es fs sub none = lookup-none (eq name) fs (all_from _ fs (λ e c. all_at _ es e (none_passes_from_lookup (eq name) es none) (sub e c)))
+
+  -- an entry that was removed is gone
+  pub closed_removed : (es : List (FileName × X)) → IsDistinct eq (keys_of es) → lookup (eq name) (remove_entry (eq name) es) ≡ None
+  closed_removed es distinct =
+      lookup-remove_entry laws (eq name) (λ x y. laws.congr name x y) name es distinct
+      ∙ ap (λ t. cond t None (lookup (eq name) es)) (laws.refl name)
+
+  -- a value that was written through a borrow is found
+  pub kept_written : (es : List (FileName × X)) (w : X) → IsSome (lookup (eq name) es) → lookup (eq name) (set_value (eq name) es w) ≡ Some w
+  kept_written es w some =
+      lookup-set_value laws (eq name) (λ x y. laws.congr name x y) name w es some
+      ∙ ap (λ t. cond t (Some w) (lookup (eq name) es)) (laws.refl name)
