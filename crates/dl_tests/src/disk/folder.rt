@@ -204,3 +204,40 @@ fn a_folder_has_one_disk_at_a_time(rt: HostRuntime) -> Result<(), Fail> {
     place.clear()?;
     Ok(())
 }
+
+// More files than are kept open at a time.
+const MANY: u32 = 140;
+
+// Makes a call on many files by turns, and finds the first one of which the two disks say other things.
+fn first_unlike<D: Disk + Drop, E: Disk + Drop>(
+    one: &mut Rig<D>,
+    other: &mut Rig<E>,
+    call: Call<'_>,
+) -> Result<Option<u32>, AllocError> {
+    for number in 1..=MANY {
+        let part = Part::Numbered(number);
+        let same = one.call(part, call)? == other.call(part, call)?;
+        if !same || one.look(part, 2)? != other.look(part, 2)? {
+            return Ok(Some(number));
+        }
+    }
+    Ok(None)
+}
+
+#[test]
+fn more_files_than_are_kept_open_are_used_by_turns(rt: HostRuntime) -> Result<(), Fail> {
+    let place = Place::new(&rt, "many")?;
+    let mut rig = place.disk()?;
+    let mut model = Rig::empty(rt.alloc())?;
+    let calls = [
+        Call::Put(TEXT),
+        Call::Write(6, b"ghi"),
+        Call::Cut(5),
+        Call::Write(3, b"XYZ"),
+    ];
+    for call in calls.iter() {
+        assert_eq!(rt; first_unlike(&mut rig, &mut model, *call)?, None);
+    }
+    place.clear()?;
+    Ok(())
+}
