@@ -224,11 +224,10 @@ fn first_unlike<D: Disk + Drop, E: Disk + Drop>(
     Ok(None)
 }
 
-#[test]
-fn more_files_than_are_kept_open_are_used_by_turns(rt: HostRuntime) -> Result<(), Fail> {
-    let place = Place::new(&rt, "many")?;
+// Writes and cuts many files by turns, and finds the first one that a disk in memory has otherwise.
+fn first_of_many(place: &Place) -> Result<Option<u32>, Fail> {
     let mut rig = place.disk()?;
-    let mut model = Rig::empty(rt.alloc())?;
+    let mut model = Rig::empty(place.rt.alloc())?;
     let calls = [
         Call::Put(TEXT),
         Call::Write(6, b"ghi"),
@@ -236,8 +235,18 @@ fn more_files_than_are_kept_open_are_used_by_turns(rt: HostRuntime) -> Result<()
         Call::Write(3, b"XYZ"),
     ];
     for call in calls.iter() {
-        assert_eq!(rt; first_unlike(&mut rig, &mut model, *call)?, None);
+        let unlike = first_unlike(&mut rig, &mut model, *call)?;
+        if unlike.is_some() {
+            return Ok(unlike);
+        }
     }
+    Ok(None)
+}
+
+#[test]
+fn more_files_than_are_kept_open_are_used_by_turns(rt: HostRuntime) -> Result<(), Fail> {
+    let place = Place::new(&rt, "many")?;
+    assert_eq!(rt; first_of_many(&place)?, None);
     place.clear()?;
     Ok(())
 }
