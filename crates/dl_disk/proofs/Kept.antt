@@ -1,5 +1,5 @@
 -- Look-ups of kept files, after an edit of their list.
-use Rattle.std.proofs.Common.{◌≡◌, Bool, List, Contains, Option, Some, None, IsSome, cond, ◌∙◌, ap}
+use Rattle.std.proofs.Common.{◌≡◌, Bool, List, Contains, Some, None, IsSome, cond, ◌∙◌, ap}
 use Rattle.std.specs.Cmp.{IsEquivalence}
 use Rattle.std.specs.List.{IsDistinct}
 use Rattle.std.specs.Map.{lookup, keys_of, remove_entry, set_value}

@@ -1,4 +1,4 @@
-use Rattle.std.proofs.Common.{◌≡◌, length}
+use Rattle.std.proofs.Common.{length}
 use Rattle.dl_types.specs.declared.file.FileName.{FileName}
 use Rattle.dl_disk.specs.Folder.{IsClosed}
 use Rattle.dl_disk.proofs.folder.calls.Folder.open_at.Given as goal
