@@ -10,6 +10,7 @@ mod faults;
 mod forms;
 mod limits;
 mod pieces;
+mod reads;
 
 // A hub over a disk in memory.
 type MemoryHub = Hub<MemoryDisk<Global>, Global>;
