@@ -12,8 +12,10 @@ use std::time::Duration;
 // The blocks of a hub's cache, as many as the program has by default.
 const BLOCKS: u32 = 16;
 
-// The most logs that are written in turn.
+// The most logs that are written in turn, and how many are at first.
 const MOST_LOGS: u64 = 1_000;
+
+const FEW_LOGS: usize = 100;
 
 // What a stop leaves in the middle of writing an item: five bytes of the eight before it.
 const TORN: [u8; 5] = [0, 0, 0, 100, 0xd1];
@@ -118,6 +120,8 @@ fn measure_calls<D: Disk + Drop>(client: &mut Client<'_, D>) -> Result<(), Fault
     for log in turns {
         client.open(*log)?;
     }
+    let few = &turns[..turns.len().min(FEW_LOGS)];
+    bench.items("round_robin_100", client.append(few, 1)?)?;
     bench.items("round_robin", client.append(turns, 1)?)?;
     if bench.counts {
         show_files(client, logs.as_slice())?;
