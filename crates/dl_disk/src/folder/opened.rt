@@ -1,5 +1,5 @@
 // A file that is open, by its name and with its length.
-ghost use Rattle.std.specs.Prelude.{◌≡◌, ◌≤◌, ◌+◌, max, length, IfOk, OnOk, OnErr, IsTrue};
+ghost use Rattle.std.specs.Prelude.{◌≡◌, ◌≤◌, ◌+◌, ◌⊎◌, max, length, IfOk, OnOk, OnErr, IsTrue};
 
 use dl_types::FileName;
 use std::fs::{File, Files, OpenOptions, metadata};
@@ -39,7 +39,8 @@ pub(crate) struct Opened {
 impl Opened {
     /// Whether this is the file of that name, and open for that.
     pub(crate) fn serves(&self, name: FileName, access: Access) -> bool
-        ensures { IsTrue result → self.now.name ≡ name }
+        ensures named { IsTrue result → self.now.name ≡ name }
+        ensures open { IsTrue result → (self.now.access ≡ Access.Change) ⊎ (access ≡ Access.Read) }
     {
         self.name == name && (self.access == Access::Change || access == Access::Read)
     }
