@@ -79,7 +79,7 @@ awk '
         ratio("append one a call: a write an item", "dlog_append_folder", "baseline_append_unbuffered_folder")
         ratio("append 64 a call: a BufWriter", "dlog_append_64_folder", "baseline_append_64_folder")
         ratio("read back: a scan that keeps all items", "dlog_read_folder", "baseline_read_folder")
-        ratio("open with repair: a scan and a cut", "dlog_open_repair_folder", "baseline_open_repair_folder")
+        ratio("open with repair: a pass over heads and a cut", "dlog_open_repair_folder", "baseline_open_repair_folder")
         ratio("100 logs by turns: one log of dlog", "dlog_round_robin_100_folder", "dlog_append_folder")
         ratio("1,000 logs by turns: one log of dlog", "dlog_round_robin_folder", "dlog_append_folder")
     }

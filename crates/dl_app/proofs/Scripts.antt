@@ -67,7 +67,7 @@ has_first a b line next (inl is) read long = let some = has_next a b line (read 
 has_first a b line next (inr is) read long = let some = long is in (some.0, some.1, some.2)
 
 module _ {D : Type 0} (state : D → DiskState) (Z : Type 0) where
-  -- a script and a line behind it are a script
+  -- a script and a line after it are a script
   pub script_more : (lines : List (List ℕ)) (old mid new : Stage D) (answers : List ℕ) (line answer : List ℕ) → IsScript state Z lines old mid answers
       → length line ≤ LINE_LIMIT → IsLine state Z line mid new answer → IsScript state Z (lines ++ line ∷ []) old new (answers ++ answer)
   script_more [] old mid new answers line answer script short step = (
@@ -94,7 +94,7 @@ module _ {D : Type 0} (state : D → DiskState) (Z : Type 0) where
         ),
       )
 
-  -- lines and one behind them were run
+  -- lines and one after them were run
   pub runs_more : (lines : List (List ℕ)) (old mid new : Stage D) (line answer : List ℕ) (a b c : Option (List ℕ)) → Runs state Z lines old mid a b
       → length line ≤ LINE_LIMIT → IsLine state Z line mid new answer → Appends b c answer → Runs state Z (lines ++ line ∷ []) old new a c
   runs_more lines old mid new line answer a b c runs short step written =

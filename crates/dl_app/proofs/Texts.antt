@@ -72,7 +72,7 @@ at_feed xs end e =
           subst (λ (b : ℕ). b ≢ 10) (sym (get_or-take end xs k 0 inside)) (eqb-false _ _ (found.2 k inside))),
     )
 
--- ---- what a reader lost, with a part of a line behind others
+-- ---- what a reader lost, with a part of a line after others
 
 -- a line feed ends the line
 pub takes_feed : (a b c : Option (List ℕ)) (line bytes new : List ℕ) → new ≡ line ++ bytes → Consumes a b line → Consumes b c (bytes ++ 10 ∷ []) → All (λ x. x ≢ 10) line → All (λ x. x ≢ 10) bytes

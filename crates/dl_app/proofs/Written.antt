@@ -20,7 +20,7 @@ size_reads : (word : List ℕ) (n : Size) → WritesSize word (Some n) → size_
 size_reads word Infinity p = ap (λ (w : List ℕ). size_from (number_in w)) p
 size_reads word (Limit n) p = ap size_from p.1
 
--- the only setting that an option can write: by its first letter, and by one behind the sign
+-- the only setting that an option can write: by its first letter, and by one after the sign
 abbrev setting_from : List ℕ → Setting
 setting_from option =
     if nat_eq (get_or option 0 0) 98 then setting.Base (base_from (drop 5 option))

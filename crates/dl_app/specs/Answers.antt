@@ -15,7 +15,7 @@ use Rattle.dl_app.specs.declared.answer.TheConstants.{DIGITS}
 abbrev pub hex : ℕ → List ℕ
 hex byte = slice_index DIGITS (byte / 16) ∷ slice_index DIGITS (byte % 16) ∷ []
 
--- an item behind a space: each byte in two digits, or `-` where there is none
+-- an item after a space: each byte in two digits, or `-` if it is empty
 abbrev pub item_text : List ℕ → List ℕ
 item_text [] = 32 ∷ 45 ∷ []
 item_text (b ∷ bytes) = 32 ∷ flat_map hex (b ∷ bytes)

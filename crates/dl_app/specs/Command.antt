@@ -47,7 +47,7 @@ request_word (request.Log items) = codes "log"
 request_word (request.Chunk from most) = codes "chunk"
 request_word request.Close = codes "close"
 
--- the words of a call behind the name of its log
+-- the words of a call after the name of its log
 abbrev pub GivesRequest : List (List ℕ) → Request → Type 0
 GivesRequest words (request.Open args) = GivesArgs words args
 GivesRequest words (request.Log items) = (list_all is_item words ≡ true) × (words_left items ≡ words)

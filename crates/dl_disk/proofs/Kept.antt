@@ -1,5 +1,5 @@
 -- Look-ups of kept files, after an edit of their list.
-use Rattle.std.proofs.Common.{◌≡◌, Bool, List, Contains, Some, None, IsSome, cond, ◌∙◌, ap}
+use Rattle.std.proofs.Common.{◌≡◌, Bool, List, Contains, Some, None, IsSome, Result, Ok, Err, OnOk, cond, ◌∙◌, ap, sym, subst}
 use Rattle.std.specs.Cmp.{IsEquivalence}
 use Rattle.std.specs.List.{IsDistinct}
 use Rattle.std.specs.Map.{lookup, keys_of, remove_entry, set_value}
@@ -31,3 +31,8 @@ module _ {X : Type 0} (name : FileName) where
   kept_written es w some =
       lookup-set_value laws (eq name) (λ x y. laws.congr name x y) name w es some
       ∙ ap (λ t. cond t (Some w) (lookup (eq name) es)) (laws.refl name)
+
+-- what holds after a call that succeeded still holds if its answer is handed on and nothing else is changed
+pub still_on_ok : {T E X : Type 0} (P : X → Type 0) (old new : X) (handed answer : Result T E) → handed ≡ answer → OnOk handed (new ≡ old) → OnOk answer (P old) → OnOk handed (P new)
+still_on_ok {T} {E} P old new (Ok x) answer same kept holds = subst P (sym kept) (subst (λ (r : Result T E). OnOk r (P old)) (sym same) holds)
+still_on_ok P old new (Err e) answer same kept holds = tt

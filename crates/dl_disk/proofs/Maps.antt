@@ -35,6 +35,10 @@ pub others_kept : (m : Content) (file : FileName) (text : List ℕ) (f : FileNam
 others_kept m file text f ne = get-insert file_cmp_total m file text f ∙ at_name file f m (Some text)
     ∙ ap (λ t. cond t (Some text) (finite.get m f)) (apart eq file_eq_decides file f ne)
 
+-- where a file was removed, another one is as it was
+pub others_removed : (m : Content) (file f : FileName) → f ≢ file → finite.get (remove m file) f ≡ finite.get m f
+others_removed m file f ne = get-remove file_cmp_total m file f ∙ ap (λ t. cond t None (finite.get m f)) (ties f file ∙ apart eq file_eq_decides file f ne)
+
 -- a file put in its own place changes nothing
 pub put_again : (m : Content) (file : FileName) (text : List ℕ) → finite.get m file ≡ Some text → insert m file text ≡ m
 put_again m file text is = same_map file_cmp_total file_cmp_exact _ _ (λ f. get-insert file_cmp_total m file text f ∙ at_name file f m (Some text) ∙ by_test f (eq file f) refl)

@@ -44,7 +44,7 @@ pub record IsUncounted (old new : DiskState) : Type 0 where
 abbrev pub text_at : Content → FileName → List ℕ
 text_at content file = unwrap_or (map.get content file) []
 
--- the bytes with others in the place of a range, or behind the end
+-- the bytes with others in the place of a range, or after the end
 abbrev pub written : List ℕ → ℕ → List ℕ → List ℕ
 written old at bytes = take at old ++ bytes ++ drop (at + length bytes) old
 

@@ -24,12 +24,12 @@ abbrev pub is_spent : Option ℕ → Bool
 is_spent None = false
 is_spent (Some calls) = nat_eq calls 0
 
--- what is left of a fuse that blew
+-- a fuse after it blew
 abbrev pub blown : Fuse → Option ℕ
 blown One = None
 blown All = Some 0
 
--- how many calls are left to pass, behind the next one
+-- how many calls are left to pass, after the next one
 abbrev pub left_after : Fuse → Option ℕ → Option ℕ
 left_after fuse None = None
 left_after fuse (Some calls) = if nat_eq calls 0 then blown fuse else Some (calls - 1)

@@ -54,10 +54,7 @@ impl Kept {
     pub(crate) fn length_of(&self, name: FileName) -> Option<u64>
         ensures { result ≡ known_length self.now.files.entries name }
     {
-        match self.files.peek(&name) {
-            Some(opened) => Some(opened.length),
-            None => None,
-        }
+        self.files.peek(&name).map(|opened| opened.length)
     }
 
     /// Closes the file of this name, so that the next call opens what then has the name.
@@ -68,6 +65,18 @@ impl Kept {
         if self.files.len() > 0 {
             let _ = self.files.pop(&name);
         }
+    }
+
+    // Hands on the answer of a call on the file of this name. A fault closes the file.
+    fn close_after<T>(&mut self, name: FileName, answer: io::Result<T>) -> io::Result<T>
+        ensures same { result ≡ answer }
+        ensures ok { OnOk result (self.new ≡ self.old) }
+        ensures err { OnErr result (IsClosed self.new.files.entries name) }
+    {
+        if answer.is_err() {
+            self.close(name);
+        }
+        answer
     }
 
     /// Closes the least recently used file, and returns whether there was one.
@@ -96,10 +105,7 @@ impl Kept {
             Some(opened) => opened.read_at(at, buffer),
             None => Err(ErrorKind::NotFound.into()),
         };
-        if answer.is_err() {
-            self.close(name);
-        }
-        answer
+        self.close_after(name, answer)
     }
 
     /// Writes into a kept file. A fault closes it, since its length is not known any more.
@@ -112,10 +118,7 @@ impl Kept {
             return Err(ErrorKind::NotFound.into());
         };
         let answer = opened.write_at(at, bytes);
-        if answer.is_err() {
-            self.close(name);
-        }
-        answer
+        self.close_after(name, answer)
     }
 
     /// Cuts a kept file off at a length that it has. A fault closes it.
@@ -127,10 +130,7 @@ impl Kept {
             return Err(ErrorKind::NotFound.into());
         };
         let answer = opened.cut(size);
-        if answer.is_err() {
-            self.close(name);
-        }
-        answer
+        self.close_after(name, answer)
     }
 
     /// Makes what was written to a kept file last. A fault closes it.
@@ -141,9 +141,6 @@ impl Kept {
             Some(opened) => opened.file.sync_data(),
             None => Err(ErrorKind::NotFound.into()),
         };
-        if answer.is_err() {
-            self.close(name);
-        }
-        answer
+        self.close_after(name, answer)
     }
 }

@@ -1,4 +1,4 @@
--- What each base has once the count behind the borrow is written.
+-- What each base has once the count after the borrow is written.
 use Rattle.std.proofs.Common.{rules, Some, refl}
 use Rattle.indexmap.specs.IndexMap.{get}
 use Rattle.dl_types.specs.Name.{same_base}
