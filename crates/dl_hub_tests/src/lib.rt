@@ -1,10 +1,8 @@
-//! Tests of item files, of the hub and of scripts that need their public calls alone.
+//! Tests of the hub and of scripts that need their public calls alone.
 #![tactic(auto)]
 
 #[cfg(test)]
 mod app;
-#[cfg(test)]
-mod file;
 #[cfg(test)]
 mod hub;
 #[cfg(test)]
