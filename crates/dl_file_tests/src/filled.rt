@@ -28,7 +28,11 @@ impl Filled {
 
 /// Whether these are the items, in order.
 pub fn are(found: &[Item], items: &[Filled]) -> bool {
-    found.len() == items.len() && found.iter().zip(items).all(|(item, filled)| filled.is(item))
+    found.len() == items.len()
+        && found
+            .iter()
+            .zip(items)
+            .all(|(item, filled)| filled.is(item))
 }
 
 /// A head item, if there is one.

@@ -43,11 +43,7 @@ fn open(alloc: Global, disk: Failing, fuse: Fuse) -> Result<Rig<Failing>, Fail> 
 }
 
 // Adds items one by one, and keeps those that were added.
-fn add_all(
-    alloc: Global,
-    rig: &mut Rig<Failing>,
-    kept: &mut Vec<Filled>,
-) -> Result<(), Fail> {
+fn add_all(alloc: Global, rig: &mut Rig<Failing>, kept: &mut Vec<Filled>) -> Result<(), Fail> {
     let mut byte = b'a';
     for count in COUNTS {
         let item = Filled { byte, count };

@@ -92,10 +92,11 @@ impl<D: Disk + Drop> Rig<D> {
         for filled in items {
             made.push(filled.item(alloc)?)?;
         }
-        Ok(self
-            .files
-            .add(&mut self.disk, &mut self.cache, made.as_slice())
-            .ok())
+        Ok(
+            self.files
+                .add(&mut self.disk, &mut self.cache, made.as_slice())
+                .ok(),
+        )
     }
 
     /// Empties the log, with another head item if one is given.
@@ -105,9 +106,10 @@ impl<D: Disk + Drop> Rig<D> {
         other: Option<Filled>,
     ) -> Result<Result<(), BeginFault>, Fail> {
         let other = made(alloc, other)?;
-        Ok(self
-            .files
-            .empty(alloc, &mut self.disk, &mut self.cache, &other))
+        Ok(
+            self.files
+                .empty(alloc, &mut self.disk, &mut self.cache, &other),
+        )
     }
 
     /// Gives the log another limit. The size of the file in bytes, if that is larger.
@@ -127,7 +129,9 @@ impl<D: Disk + Drop> Rig<D> {
 
     /// Writes all that waits. Whether that was done.
     pub fn drain(&mut self) -> bool {
-        self.files.drain_all(&mut self.disk, &mut self.cache).is_ok()
+        self.files
+            .drain_all(&mut self.disk, &mut self.cache)
+            .is_ok()
     }
 
     /// Writes all that waits and marks the file as whole. Whether both were done.
