@@ -1,4 +1,5 @@
 // The file of a halt log from its first item to its last.
 mod faults;
 mod life;
+mod moves;
 mod rig;

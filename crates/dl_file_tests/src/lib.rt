@@ -7,3 +7,5 @@ mod filled;
 mod halt;
 #[cfg(test)]
 mod item;
+#[cfg(test)]
+mod wrap;
