@@ -6,7 +6,7 @@ use super::same::is_same;
 use crate::filled::Filled;
 use dl_disk::MemoryDisk;
 use dl_index::Limits;
-use dl_types::Repair;
+use dl_types::{FileName, Part, Repair};
 use std::alloc::Global;
 use std::test::Fail;
 
@@ -111,6 +111,20 @@ fn resize(
         return Err("other files".into());
     }
     Ok(())
+}
+
+// Whether the disk has the files of the numbers from 1 to a number, and none of those up to 10 after it.
+fn has_up_to(rig: &Rig<MemoryDisk>, last: u32) -> Result<bool, Fail> {
+    for number in 1..11 {
+        let name = FileName {
+            base: base_of_log()?,
+            part: Part::Numbered(number),
+        };
+        if rig.disk().get(name).is_some() != (number <= last) {
+            return Ok(false);
+        }
+    }
+    Ok(true)
 }
 
 // Ten files, of which the eighth is the current one as the limit becomes six.
