@@ -140,27 +140,44 @@ fn finds(
     Ok(told == repaired && first.as_bytes().first() == Some(&byte))
 }
 
+// A disk with the index and one of the two files.
+fn with_one(alloc: Global, number: u32) -> Result<MemoryDisk, Fail> {
+    let mut disk = MemoryDisk::new(alloc);
+    disk.set(file(Part::Index)?, INDEX.to_vec(alloc)?)?;
+    let byte = if number == 1 { b'a' } else { b'b' };
+    let name = file(Part::Numbered(number))?;
+    disk.set(name, text(alloc, Mark::Shut, number as u64, byte)?)?;
+    Ok(disk)
+}
+
+// A closed set with other bytes in one of its files.
+fn with(alloc: Global, part: Part, text: Vec<u8>) -> Result<MemoryDisk, Fail> {
+    let mut disk = closed(alloc)?;
+    disk.set(file(part)?, text)?;
+    Ok(disk)
+}
+
+// A closed set with three bad bytes at its end.
+fn torn(alloc: Global) -> Result<MemoryDisk, Fail> {
+    let mut longer = text(alloc, Mark::Shut, 2, b'b')?;
+    longer.extend_from_slice(b"xyz")?;
+    with(alloc, Part::Numbered(2), longer)
+}
+
+// A closed set whose last file has this mark and this generation.
+fn headed(alloc: Global, mark: Mark, generation: u64) -> Result<MemoryDisk, Fail> {
+    let text = text(alloc, mark, generation, b'b')?;
+    with(alloc, Part::Numbered(2), text)
+}
+
 // A last file that is missing, or of another generation, is an empty one; bad bytes of it are cut.
 fn mends_the_last(alloc: Global) -> Result<bool, Fail> {
     let whole = finds(alloc, closed(alloc)?, None, b'a')?;
-    let mut missing = MemoryDisk::new(alloc);
-    missing.set(file(Part::Index)?, INDEX.to_vec(alloc)?)?;
-    missing.set(file(Part::Numbered(1))?, text(alloc, Mark::Shut, 1, b'a')?)?;
-    let mut other = closed(alloc)?;
-    other.set(file(Part::Numbered(2))?, text(alloc, Mark::Shut, 7, b'b')?)?;
-    let mut torn = closed(alloc)?;
-    let mut longer = text(alloc, Mark::Shut, 2, b'b')?;
-    longer.extend_from_slice(b"xyz")?;
-    torn.set(file(Part::Numbered(2))?, longer)?;
-    let mut left = closed(alloc)?;
-    left.set(file(Part::Numbered(2))?, text(alloc, Mark::Open, 2, b'b')?)?;
-    Ok(
-        whole
-            && finds(alloc, missing, Some((0, 0)), b'a')?
-            && finds(alloc, other, Some((0, 0)), b'a')?
-            && finds(alloc, torn, Some((1, 3)), b'a')?
-            && finds(alloc, left, Some((1, 0)), b'a')?,
-    )
+    let missing = finds(alloc, with_one(alloc, 1)?, Some((0, 0)), b'a')?;
+    let other = finds(alloc, headed(alloc, Mark::Shut, 7)?, Some((0, 0)), b'a')?;
+    let torn = finds(alloc, torn(alloc)?, Some((1, 3)), b'a')?;
+    let left = finds(alloc, headed(alloc, Mark::Open, 2)?, Some((1, 0)), b'a')?;
+    Ok(whole && missing && other && torn && left)
 }
 
 #[test]
@@ -169,29 +186,26 @@ fn the_last_file_is_repaired(rt: HostRuntime) -> Result<(), Fail> {
     Ok(())
 }
 
-// A set with another index, or with another first or second file.
-fn with(alloc: Global, part: Part, text: &[u8]) -> Result<MemoryDisk, Fail> {
-    let mut disk = closed(alloc)?;
-    disk.set(file(part)?, text.to_vec(alloc)?)?;
-    Ok(disk)
+// Whether a set is refused so.
+fn is_refused(alloc: Global, disk: MemoryDisk, fault: OpenFault) -> Result<bool, Fail> {
+    Ok(refusal(alloc, disk, asked(Repair::Yes, None))? == Some(fault))
+}
+
+// Whether an index with these bytes is refused.
+fn is_no_index(alloc: Global, bytes: &[u8]) -> Result<bool, Fail> {
+    let disk = with(alloc, Part::Index, bytes.to_vec(alloc)?)?;
+    is_refused(alloc, disk, OpenFault::InvalidIndex)
 }
 
 // The refusals of damaged sets.
 fn refuses(alloc: Global) -> Result<bool, Fail> {
-    let plain = asked(Repair::Yes, None);
-    let mut earlier = MemoryDisk::new(alloc);
-    earlier.set(file(Part::Index)?, INDEX.to_vec(alloc)?)?;
-    earlier.set(file(Part::Numbered(2))?, text(alloc, Mark::Shut, 2, b'b')?)?;
-    let counted = with(alloc, Part::Index, THREE_COUNTED)?;
-    let late = with(alloc, Part::Index, LATE)?;
-    let headed = with(alloc, Part::Numbered(2), LATE_HEAD)?;
-    let no_log = OpenFault::NotALogFile(file(Part::Numbered(2))?);
-    Ok(
-        refusal(alloc, earlier, plain)? == Some(OpenFault::InvalidIndex)
-            && refusal(alloc, counted, plain)? == Some(OpenFault::InvalidIndex)
-            && refusal(alloc, late, plain)? == Some(OpenFault::InvalidIndex)
-            && refusal(alloc, headed, plain)? == Some(no_log),
-    )
+    let second = Part::Numbered(2);
+    let earlier = is_refused(alloc, with_one(alloc, 2)?, OpenFault::InvalidIndex)?;
+    let counted = is_no_index(alloc, THREE_COUNTED)?;
+    let late = is_no_index(alloc, LATE)?;
+    let headed = with(alloc, second, LATE_HEAD.to_vec(alloc)?)?;
+    let foreign = is_refused(alloc, headed, OpenFault::NotALogFile(file(second)?))?;
+    Ok(earlier && counted && late && foreign)
 }
 
 #[test]
@@ -207,7 +221,7 @@ fn refuses_what_is_asked(alloc: Global) -> Result<bool, Fail> {
         files: 3,
     };
     let larger = refusal(alloc, closed(alloc)?, asked(Repair::Yes, Some(other)))?;
-    let left = with(alloc, Part::Numbered(2), &text(alloc, Mark::Open, 2, b'b')?)?;
+    let left = headed(alloc, Mark::Open, 2)?;
     let unrepaired = refusal(alloc, left, asked(Repair::No, None))?;
     let none = refusal(alloc, MemoryDisk::new(alloc), asked(Repair::Yes, None))?;
     Ok(
@@ -225,9 +239,7 @@ fn an_open_is_refused_for_what_it_asks(rt: HostRuntime) -> Result<(), Fail> {
 
 // Empties a set without its first file. Whether it has one file of the third generation, and the second is gone.
 fn empties(alloc: Global) -> Result<bool, Fail> {
-    let mut disk = MemoryDisk::new(alloc);
-    disk.set(file(Part::Index)?, INDEX.to_vec(alloc)?)?;
-    disk.set(file(Part::Numbered(2))?, text(alloc, Mark::Shut, 2, b'b')?)?;
+    let disk = with_one(alloc, 2)?;
     let mut rig = opened(alloc, disk, asked(Repair::Truncate, None))?;
     let first = rig.facts(0).ok_or("no file")?;
     let gone = rig.disk().get(file(Part::Numbered(2))?).is_none();
