@@ -1,5 +1,4 @@
 // The file of a halt log from its first item to its last.
 mod faults;
 mod life;
-mod moves;
 mod rig;

@@ -7,5 +7,3 @@ mod filled;
 mod halt;
 #[cfg(test)]
 mod item;
-#[cfg(test)]
-mod wrap;

@@ -4,7 +4,7 @@ ghost use Rattle.std.specs.Prelude.{IsTrue};
 use crate::filled::{Filled, are, made};
 use dl_cache::Cache;
 use dl_disk::{Disk, FuseDisk, MemoryDisk};
-use dl_halt::{BeginFault, HaltFiles, HaltReader, MoveFault, OpenAs, OpenFault, Opening};
+use dl_halt::{BeginFault, HaltFiles, HaltReader, OpenAs, OpenFault, Opening};
 use dl_reader::{Chunk, chunk};
 use dl_types::{Base, Mode, Name, Place, Repair, Size};
 use std::alloc::Global;
@@ -17,19 +17,17 @@ use std::test::Fail;
 pub struct Rig<D: Disk + Drop> {
     disk: D,
     cache: Cache,
-    base: Base,
     files: HaltFiles,
 }
 
 impl<D: Disk + Drop> Model for Rig<D> {
-    ghost use Rattle.std.specs.Prelude.{◌≡◌};
     ghost use Rattle.dl_file.specs.File.{IsReady};
 
     ghost Value = { Unit {0} };
 
     ghost view = { λ r. tt };
 
-    ghost invariant = { λ r. IsReady (D.state r.disk) r.cache r.files.file × (r.files.base ≡ r.base) };
+    ghost invariant = { λ r. IsReady (D.state r.disk) r.cache r.files.file };
 }
 
 /// What a log is opened with.
@@ -83,15 +81,7 @@ impl<D: Disk + Drop> Rig<D> {
                     None => None,
                     Some(repaired) => Some((repaired.recovered, repaired.bad)),
                 };
-                Ok(Begun::Open(
-                    Rig {
-                        disk,
-                        cache,
-                        base,
-                        files,
-                    },
-                    told,
-                ))
+                Ok(Begun::Open(Rig { disk, cache, files }, told))
             }
         }
     }
@@ -119,18 +109,6 @@ impl<D: Disk + Drop> Rig<D> {
         Ok(
             self.files
                 .empty(alloc, &mut self.disk, &mut self.cache, &other),
-        )
-    }
-
-    /// Moves the log's file to another base.
-    pub fn move_to(&mut self, alloc: Global, target: Base) -> Result<Result<(), MoveFault>, Fail> {
-        self.disk.know(target)?;
-        if target == self.base {
-            return Err("its own base".into());
-        }
-        Ok(
-            self.files
-                .move_to(alloc, &mut self.disk, &mut self.cache, target, &None),
         )
     }
 
