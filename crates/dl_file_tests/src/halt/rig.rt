@@ -65,8 +65,8 @@ impl<D: Disk + Drop> Rig<D> {
         let mut cache = Cache::new(alloc, 1)?;
         let chain = cache.open_chain()?;
         let size = match asked.size {
-            Size::Limit(limit) => Size::Limit(limit.min(100_000)),
             Size::Infinity => Size::Infinity,
+            limited => Size::Limit(limited.limit().min(100_000)),
         };
         let asked = OpenAs {
             mode: asked.mode,
