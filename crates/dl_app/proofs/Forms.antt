@@ -1,12 +1,17 @@
 -- Which words have the form of a call.
-use Rattle.std.proofs.Common.{◌≡◌, ℕ, ◌==◌, Bool, true, false, Option, Some, None, List, [], ◌∷◌, length, codes, refl, sym, ◌∙◌, IfSome, IfNone, subst, ap, get_or, arith}
+use Rattle.std.proofs.Common.{◌≡◌, ℕ, ℤ, ◌==◌, Bool, true, false, Option, Some, None, List, [], ◌∷◌, length, codes, refl, sym, ◌∙◌, IfSome, IfNone, subst, ap, get_or}
+use Rattle.std.proofs.lemmas.Bool.{eqb-false}
 use Rattle.std.proofs.Math.Dec.{eqb-suc-zero}
 use Rattle.std.specs.Bool.{then_some}
-use Rattle.dl_types.specs.declared.size.OpenArgs.{OpenArgs}
+use Rattle.std.specs.Borrow.{Bor}
+use Rattle.dl_types.specs.declared.name.Base.{Base}
+use Rattle.dl_types.specs.declared.size.Kind.{Kind}
+use Rattle.dl_types.specs.declared.size.Size.{Size}
 use Rattle.dl_app.specs.declared.command.Request.{Request}
-use Rattle.dl_app.specs.declared.command.Request.TheVariants.{Open, Log, Chunk, Close}
+use Rattle.dl_app.specs.declared.command.Request.TheVariants.{Open, Log, Chunk, ChunkStep, Truncate, Reopen, NextFile, ChangeSize, Sync, Info, Close}
 use Rattle.dl_app.specs.declared.command.Start.{Start}
-use Rattle.dl_app.specs.Command.{GivesRequest, GivesArgs, GivesChunk, request_word}
+use Rattle.dl_app.specs.declared.options.Settings.{Settings}
+use Rattle.dl_app.specs.Command.{GivesRequest, GivesArgs, GivesChunk, GivesStep, GivesHead, GivesMove, GivesSize, request_word}
 
 pub none_holds : {A : Type 0} (o : Option A) (P : Type 0) → P → IfNone o P
 none_holds None P p = p
@@ -16,23 +21,93 @@ pub none_maps : {A : Type 0} (o : Option A) (P Q : Type 0) → (P → Q) → IfN
 none_maps None P Q f p = f p
 none_maps (Some x) P Q f p = tt
 
--- an open whose words give no arguments
-pub no_open : (verb : List ℕ) (words : List (List ℕ)) → verb ≡ codes "open" → ((args : OpenArgs) → GivesArgs words args → ⊥) → (request : Request) → verb ≡ request_word request → GivesRequest words request → ⊥
-no_open verb words is none (Open args) same given = none args given
-no_open verb words is none (Log items) same given = let bad : ⊥ = cc in bad
-no_open verb words is none (Chunk from most) same given = let bad : ⊥ = cc in bad
-no_open verb words is none Close same given = let bad : ⊥ = cc in bad
+-- two words that differ at a letter
+apart : (verb v w : List ℕ) (k : ℕ) → verb ≡ v → verb ≡ w → (get_or v k 0 == get_or w k 0) ≡ false → ⊥
+apart verb v w k is same differs = eqb-false _ _ differs (ap (λ (word : List ℕ). get_or word k 0) (sym is ∙ same))
 
-second_letters : (a b : ℕ) → a ≡ b → a ≡ 104 → b ≡ 108 → ⊥
-second_letters a b same h l = absurd (omega arith)
+-- an open whose words give no settings
+pub no_open : (verb : List ℕ) (words : List (List ℕ)) → verb ≡ codes "open" → ((kind : Kind) (settings : Settings) → GivesArgs words kind settings → ⊥) → (request : Request) → verb ≡ request_word request → GivesRequest words request → ⊥
+no_open verb words is none (Open kind settings) same given = none kind settings given
+no_open verb words is none (Log items) same given = apart verb (codes "open") (codes "log") 0 is same refl
+no_open verb words is none (Chunk from most) same given = apart verb (codes "open") (codes "chunk") 0 is same refl
+no_open verb words is none (ChunkStep from by) same given = apart verb (codes "open") (codes "step") 0 is same refl
+no_open verb words is none (Truncate head) same given = apart verb (codes "open") (codes "truncate") 0 is same refl
+no_open verb words is none (Reopen target head) same given = apart verb (codes "open") (codes "reopen") 0 is same refl
+no_open verb words is none NextFile same given = apart verb (codes "open") (codes "nextfile") 0 is same refl
+no_open verb words is none (ChangeSize size) same given = apart verb (codes "open") (codes "size") 0 is same refl
+no_open verb words is none Sync same given = apart verb (codes "open") (codes "sync") 0 is same refl
+no_open verb words is none Info same given = apart verb (codes "open") (codes "info") 0 is same refl
+no_open verb words is none Close same given = apart verb (codes "open") (codes "close") 0 is same refl
 
 -- a chunk whose words give none
 pub no_chunk : (verb : List ℕ) (words : List (List ℕ)) → verb ≡ codes "chunk" → ((from : Start) (most : ℕ) → GivesChunk words from most → ⊥) → (request : Request) → verb ≡ request_word request → GivesRequest words request → ⊥
-no_chunk verb words is none (Open args) same given = let bad : ⊥ = cc in bad
-no_chunk verb words is none (Log items) same given = let bad : ⊥ = cc in bad
+no_chunk verb words is none (Open kind settings) same given = apart verb (codes "chunk") (codes "open") 0 is same refl
+no_chunk verb words is none (Log items) same given = apart verb (codes "chunk") (codes "log") 0 is same refl
 no_chunk verb words is none (Chunk from most) same given = none from most given
-no_chunk verb words is none Close same given =
-    second_letters _ _ (ap (λ (word : List ℕ). get_or word 1 0) (sym is ∙ same)) refl refl
+no_chunk verb words is none (ChunkStep from by) same given = apart verb (codes "chunk") (codes "step") 0 is same refl
+no_chunk verb words is none (Truncate head) same given = apart verb (codes "chunk") (codes "truncate") 0 is same refl
+no_chunk verb words is none (Reopen target head) same given = apart verb (codes "chunk") (codes "reopen") 0 is same refl
+no_chunk verb words is none NextFile same given = apart verb (codes "chunk") (codes "nextfile") 0 is same refl
+no_chunk verb words is none (ChangeSize size) same given = apart verb (codes "chunk") (codes "size") 0 is same refl
+no_chunk verb words is none Sync same given = apart verb (codes "chunk") (codes "sync") 0 is same refl
+no_chunk verb words is none Info same given = apart verb (codes "chunk") (codes "info") 0 is same refl
+no_chunk verb words is none Close same given = apart verb (codes "chunk") (codes "close") 1 is same refl
+
+-- a step whose words give none
+pub no_step : (verb : List ℕ) (words : List (List ℕ)) → verb ≡ codes "step" → ((from : Start) (by : ℤ) → GivesStep words from by → ⊥) → (request : Request) → verb ≡ request_word request → GivesRequest words request → ⊥
+no_step verb words is none (Open kind settings) same given = apart verb (codes "step") (codes "open") 0 is same refl
+no_step verb words is none (Log items) same given = apart verb (codes "step") (codes "log") 0 is same refl
+no_step verb words is none (Chunk from most) same given = apart verb (codes "step") (codes "chunk") 0 is same refl
+no_step verb words is none (ChunkStep from by) same given = none from by given
+no_step verb words is none (Truncate head) same given = apart verb (codes "step") (codes "truncate") 0 is same refl
+no_step verb words is none (Reopen target head) same given = apart verb (codes "step") (codes "reopen") 0 is same refl
+no_step verb words is none NextFile same given = apart verb (codes "step") (codes "nextfile") 0 is same refl
+no_step verb words is none (ChangeSize size) same given = apart verb (codes "step") (codes "size") 1 is same refl
+no_step verb words is none Sync same given = apart verb (codes "step") (codes "sync") 1 is same refl
+no_step verb words is none Info same given = apart verb (codes "step") (codes "info") 0 is same refl
+no_step verb words is none Close same given = apart verb (codes "step") (codes "close") 0 is same refl
+
+-- a truncate whose words give none
+pub no_truncate : (verb : List ℕ) (words : List (List ℕ)) → verb ≡ codes "truncate" → ((head : Option (Bor (List ℕ))) → GivesHead words head → ⊥) → (request : Request) → verb ≡ request_word request → GivesRequest words request → ⊥
+no_truncate verb words is none (Open kind settings) same given = apart verb (codes "truncate") (codes "open") 0 is same refl
+no_truncate verb words is none (Log items) same given = apart verb (codes "truncate") (codes "log") 0 is same refl
+no_truncate verb words is none (Chunk from most) same given = apart verb (codes "truncate") (codes "chunk") 0 is same refl
+no_truncate verb words is none (ChunkStep from by) same given = apart verb (codes "truncate") (codes "step") 0 is same refl
+no_truncate verb words is none (Truncate head) same given = none head given
+no_truncate verb words is none (Reopen target head) same given = apart verb (codes "truncate") (codes "reopen") 0 is same refl
+no_truncate verb words is none NextFile same given = apart verb (codes "truncate") (codes "nextfile") 0 is same refl
+no_truncate verb words is none (ChangeSize size) same given = apart verb (codes "truncate") (codes "size") 0 is same refl
+no_truncate verb words is none Sync same given = apart verb (codes "truncate") (codes "sync") 0 is same refl
+no_truncate verb words is none Info same given = apart verb (codes "truncate") (codes "info") 0 is same refl
+no_truncate verb words is none Close same given = apart verb (codes "truncate") (codes "close") 0 is same refl
+
+-- a reopen whose words give none
+pub no_reopen : (verb : List ℕ) (words : List (List ℕ)) → verb ≡ codes "reopen" → ((target : Base) (head : Option (Bor (List ℕ))) → GivesMove words target head → ⊥) → (request : Request) → verb ≡ request_word request → GivesRequest words request → ⊥
+no_reopen verb words is none (Open kind settings) same given = apart verb (codes "reopen") (codes "open") 0 is same refl
+no_reopen verb words is none (Log items) same given = apart verb (codes "reopen") (codes "log") 0 is same refl
+no_reopen verb words is none (Chunk from most) same given = apart verb (codes "reopen") (codes "chunk") 0 is same refl
+no_reopen verb words is none (ChunkStep from by) same given = apart verb (codes "reopen") (codes "step") 0 is same refl
+no_reopen verb words is none (Truncate head) same given = apart verb (codes "reopen") (codes "truncate") 0 is same refl
+no_reopen verb words is none (Reopen target head) same given = none target head given
+no_reopen verb words is none NextFile same given = apart verb (codes "reopen") (codes "nextfile") 0 is same refl
+no_reopen verb words is none (ChangeSize size) same given = apart verb (codes "reopen") (codes "size") 0 is same refl
+no_reopen verb words is none Sync same given = apart verb (codes "reopen") (codes "sync") 0 is same refl
+no_reopen verb words is none Info same given = apart verb (codes "reopen") (codes "info") 0 is same refl
+no_reopen verb words is none Close same given = apart verb (codes "reopen") (codes "close") 0 is same refl
+
+-- a size whose words give none
+pub no_size : (verb : List ℕ) (words : List (List ℕ)) → verb ≡ codes "size" → ((size : Size) → GivesSize words size → ⊥) → (request : Request) → verb ≡ request_word request → GivesRequest words request → ⊥
+no_size verb words is none (Open kind settings) same given = apart verb (codes "size") (codes "open") 0 is same refl
+no_size verb words is none (Log items) same given = apart verb (codes "size") (codes "log") 0 is same refl
+no_size verb words is none (Chunk from most) same given = apart verb (codes "size") (codes "chunk") 0 is same refl
+no_size verb words is none (ChunkStep from by) same given = apart verb (codes "size") (codes "step") 1 is same refl
+no_size verb words is none (Truncate head) same given = apart verb (codes "size") (codes "truncate") 0 is same refl
+no_size verb words is none (Reopen target head) same given = apart verb (codes "size") (codes "reopen") 0 is same refl
+no_size verb words is none NextFile same given = apart verb (codes "size") (codes "nextfile") 0 is same refl
+no_size verb words is none (ChangeSize size) same given = none size given
+no_size verb words is none Sync same given = apart verb (codes "size") (codes "sync") 1 is same refl
+no_size verb words is none Info same given = apart verb (codes "size") (codes "info") 0 is same refl
+no_size verb words is none Close same given = apart verb (codes "size") (codes "close") 0 is same refl
 
 -- what is given where no word is left
 pub where_ended : {A : Type 0} (P : A → Type 0) (x : A) (rest : List (List ℕ)) → (rest ≡ [] → P x) → (b : Bool) → b ≡ (length rest == 0) → (r : Option A) → r ≡ then_some b x → IfSome r P
@@ -40,3 +115,8 @@ where_ended P x rest holds b all None e = tt
 where_ended P x [] holds true all (Some y) e = let same : x ≡ y = cc in subst P same (holds refl)
 where_ended P x (word ∷ rest) holds true all (Some y) e = let bad : ⊥ = cc (eqb-suc-zero (length rest)) in absurd bad
 where_ended P x rest holds false all (Some y) e = let bad : ⊥ = cc in absurd bad
+
+-- one word, and no other
+pub only_word : (words rest : List (List ℕ)) (word : List ℕ) (b : Bool) → words ≡ word ∷ rest → b ≡ (length rest == 0) → b ≡ true → words ≡ word ∷ []
+only_word words [] word b at is ended = at
+only_word words (other ∷ rest) word b at is ended = let bad : ⊥ = cc (eqb-suc-zero (length rest)) in absurd bad

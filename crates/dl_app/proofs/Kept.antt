@@ -1,5 +1,5 @@
 -- Where each client goes on once one place is kept.
-use Rattle.std.proofs.Common.{◌≡◌, ℕ, List, Bool, true, false, cond, ◌&&◌, Result, Ok, Err, OnOk, refl, sym, ◌∙◌, ap, subst}
+use Rattle.std.proofs.Common.{◌≡◌, ℕ, List, Bool, true, false, cond, ◌&&◌, Result, Ok, Err, OnOk, refl, sym, ◌∙◌, ap, ◌⊎◌, inl, inr}
 use Rattle.std.proofs.lemmas.Bool.{eqb-true}
 use Rattle.dl_types.specs.declared.name.ClientId.{ClientId}
 use Rattle.dl_types.specs.declared.name.Name.{Name}
@@ -7,10 +7,10 @@ use Rattle.dl_types.specs.declared.place.Continuation.{Continuation}
 use Rattle.dl_types.specs.declared.place.Place.{Place}
 use Rattle.dl_types.specs.declared.place.Place.TheVariants.{At}
 use Rattle.dl_types.specs.declared.reply.Reply.{Reply}
-use Rattle.dl_types.specs.declared.reply.Reply.TheVariants.{Items}
+use Rattle.dl_types.specs.declared.reply.Reply.TheVariants as reply
 use Rattle.dl_types.specs.Name.{same_client, same_name}
 use Rattle.dl_types.proofs.Keys.{name_decides}
-use Rattle.dl_app.specs.Places.{places_after}
+use Rattle.dl_app.specs.Places.{places_after, given_place}
 
 both : (a b : Bool) → (a && b) ≡ true → (a ≡ true) × (b ≡ true)
 both true b e = (refl, e)
@@ -30,10 +30,15 @@ module _ (old new : ClientId → Name → Place) (client : ClientId) (log : Name
   pub all_kept : new ≡ (λ c l. cond (same_client client c && same_name log l) (At place) (old c l))
   all_kept = λ i c l. kept_at c l (same_client client c && same_name log l) refl i
 
--- the same, after a reply with items
-pub keeps_all : {Z E : Type 0} (r : Result (Unit {0}) E) (reply : Reply Z) (next : Continuation) (items : List (List ℕ)) (bad : ℕ) → reply ≡ Items next items bad
-    → (old new : ClientId → Name → Place) (client : ClientId) (log : Name) → OnOk r (new client log ≡ At next)
-    → ((c : ClientId) (l : Name) → (same_client client c && same_name log l) ≡ false → new c l ≡ old c l) → OnOk r (new ≡ places_after reply client log old)
-keeps_all {Z} (Ok x) reply next items bad is old new client log kept others =
-    subst (λ (q : Reply Z). new ≡ places_after q client log old) (sym is) (all_kept old new client log next kept others)
-keeps_all (Err e) reply next items bad is old new client log kept others = tt
+-- a reply with items, or the place that a step led to, gives a place
+pub gives_place : {Z : Type 0} (given : Reply Z) (next : Continuation) (old : ClientId → Name → Place) (client : ClientId) (log : Name)
+    → ((items : List (List ℕ)) × (bad : ℕ) × given ≡ reply.Items next items bad) ⊎ (given ≡ reply.At next) → places_after given client log old ≡ given_place next client log old
+gives_place given next old client log (inl items) = ap (λ r. places_after r client log old) items.2
+gives_place given next old client log (inr at) = ap (λ r. places_after r client log old) at
+
+-- the same, after a reply that gives a place
+pub keeps_all : {Z E : Type 0} (r : Result (Unit {0}) E) (given : Reply Z) (next : Continuation) (old new : ClientId → Name → Place) (client : ClientId) (log : Name)
+    → places_after given client log old ≡ given_place next client log old → OnOk r (new client log ≡ At next)
+    → ((c : ClientId) (l : Name) → (same_client client c && same_name log l) ≡ false → new c l ≡ old c l) → OnOk r (new ≡ places_after given client log old)
+keeps_all (Ok x) given next old new client log is kept others = all_kept old new client log next kept others ∙ sym is
+keeps_all (Err e) given next old new client log is kept others = tt

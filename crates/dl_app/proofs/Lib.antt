@@ -7,3 +7,4 @@ pub mod Chosen
 pub mod Texts
 pub mod Kept
 pub mod Scripts
+pub mod Told

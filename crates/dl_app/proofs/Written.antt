@@ -1,47 +1,53 @@
--- An option writes one setting: its letters say which.
-use Rattle.std.proofs.Common.{◌≡◌, ℕ, true, false, Option, Some, None, List, get_or, nat_eq, sym, ◌∙◌, ap}
-use Rattle.std.specs.Prelude.{drop, if◌then◌else◌}
-use Rattle.dl_types.specs.declared.size.Link.TheVariants.{Owner, Anonymous}
-use Rattle.dl_types.specs.declared.size.Mode.TheVariants.{ReadWrite, ReadOnly}
-use Rattle.dl_types.specs.declared.size.Repair.TheVariants.{Yes, No, Truncate}
-use Rattle.dl_types.specs.declared.size.Size.{Size}
-use Rattle.dl_types.specs.declared.size.Size.TheVariants.{Infinity, Limit}
-use Rattle.dl_types.specs.Name.{base_from}
+-- An option writes settings of one sort: its first letter says which.
+use Rattle.std.proofs.Common.{◌≡◌, ℕ, ◌==◌, true, List, get_or, refl, sym, ◌∙◌, ap}
 use Rattle.dl_app.specs.declared.options.Setting.{Setting}
 use Rattle.dl_app.specs.declared.options.Setting.TheVariants as setting
-use Rattle.dl_app.specs.Words.{number_in, WritesSize}
-use Rattle.dl_app.specs.Options.{WritesSetting}
+use Rattle.dl_app.specs.Options.{WritesSetting, is_same_sort}
 
-abbrev size_from : Option ℕ → Size
-size_from None = Infinity
-size_from (Some n) = Limit n
+-- the first letter of an option of this sort
+abbrev letter : Setting → ℕ
+letter (setting.Base x) = 98
+letter (setting.Size x) = 115
+letter (setting.Mode x) = 109
+letter (setting.Repair x) = 114
+letter (setting.Head x) = 104
+letter (setting.Notify x) = 110
+letter (setting.Link x) = 108
 
-size_reads : (word : List ℕ) (n : Size) → WritesSize word (Some n) → size_from (number_in word) ≡ n
-size_reads word Infinity p = ap (λ (w : List ℕ). size_from (number_in w)) p
-size_reads word (Limit n) p = ap size_from p.1
+letter_reads : (option : List ℕ) (s : Setting) → WritesSetting option s → get_or option 0 0 ≡ letter s
+letter_reads option (setting.Base x) p = ap (λ (o : List ℕ). get_or o 0 0) p.3
+letter_reads option (setting.Size x) p = ap (λ (o : List ℕ). get_or o 0 0) p.2
+letter_reads option (setting.Mode x) p = ap (λ (o : List ℕ). get_or o 0 0) p
+letter_reads option (setting.Repair x) p = ap (λ (o : List ℕ). get_or o 0 0) p
+letter_reads option (setting.Head x) p = ap (λ (o : List ℕ). get_or o 0 0) p.1
+letter_reads option (setting.Notify x) p = ap (λ (o : List ℕ). get_or o 0 0) p
+letter_reads option (setting.Link x) p = ap (λ (o : List ℕ). get_or o 0 0) p
 
--- the only setting that an option can write: by its first letter, and by one after the sign
-abbrev setting_from : List ℕ → Setting
-setting_from option =
-    if nat_eq (get_or option 0 0) 98 then setting.Base (base_from (drop 5 option))
-    else if nat_eq (get_or option 0 0) 115 then setting.Size (size_from (number_in (drop 5 option)))
-    else if nat_eq (get_or option 0 0) 109 then setting.Mode (if nat_eq (get_or option 6 0) 119 then ReadWrite else ReadOnly)
-    else if nat_eq (get_or option 0 0) 114 then setting.Repair (if nat_eq (get_or option 7 0) 121 then Yes else if nat_eq (get_or option 7 0) 110 then No else Truncate)
-    else if nat_eq (get_or option 0 0) 110 then setting.Notify (nat_eq (get_or option 7 0) 121)
-    else setting.Link (if nat_eq (get_or option 5 0) 111 then Owner else Anonymous)
+by_letter : (s t : Setting) → is_same_sort s t ≡ (letter s == letter t)
+by_letter (setting.Base x) (setting.Base y) = refl
+by_letter (setting.Size x) (setting.Size y) = refl
+by_letter (setting.Mode x) (setting.Mode y) = refl
+by_letter (setting.Repair x) (setting.Repair y) = refl
+by_letter (setting.Head x) (setting.Head y) = refl
+by_letter (setting.Notify x) (setting.Notify y) = refl
+by_letter (setting.Link x) (setting.Link y) = refl
+by_letter s t = refl
 
-setting_reads : (option : List ℕ) (s : Setting) → WritesSetting option s → setting_from option ≡ s
-setting_reads option (setting.Base m) p = ap setting_from p.3 ∙ ap setting.Base (sym p.2)
-setting_reads option (setting.Size m) p = ap setting_from p.2 ∙ ap setting.Size (size_reads p.0 m p.1)
-setting_reads option (setting.Mode ReadWrite) p = ap setting_from p
-setting_reads option (setting.Mode ReadOnly) p = ap setting_from p
-setting_reads option (setting.Repair Yes) p = ap setting_from p
-setting_reads option (setting.Repair No) p = ap setting_from p
-setting_reads option (setting.Repair Truncate) p = ap setting_from p
-setting_reads option (setting.Notify true) p = ap setting_from p
-setting_reads option (setting.Notify false) p = ap setting_from p
-setting_reads option (setting.Link Owner) p = ap setting_from p
-setting_reads option (setting.Link Anonymous) p = ap setting_from p
+-- what an option writes is of the same sort as any other setting, or is not, alike
+pub one_sort : (option : List ℕ) (s t u : Setting) → WritesSetting option s → WritesSetting option t → is_same_sort s u ≡ is_same_sort t u
+one_sort option s t u p q =
+    let same : letter s ≡ letter t = sym (letter_reads option s p) ∙ letter_reads option t q in
+    by_letter s u ∙ ap (λ (n : ℕ). n == letter u) same ∙ sym (by_letter t u)
 
-pub one_setting : (option : List ℕ) (s t : Setting) → WritesSetting option s → WritesSetting option t → s ≡ t
-one_setting option s t p q = sym (setting_reads option s p) ∙ setting_reads option t q
+own_sort : (s : Setting) → is_same_sort s s ≡ true
+own_sort (setting.Base x) = refl
+own_sort (setting.Size x) = refl
+own_sort (setting.Mode x) = refl
+own_sort (setting.Repair x) = refl
+own_sort (setting.Head x) = refl
+own_sort (setting.Notify x) = refl
+own_sort (setting.Link x) = refl
+
+-- two settings that one option writes are of one sort
+pub same_sort : (option : List ℕ) (s t : Setting) → WritesSetting option s → WritesSetting option t → is_same_sort s t ≡ true
+same_sort option s t p q = one_sort option s t t p q ∙ own_sort t

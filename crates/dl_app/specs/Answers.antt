@@ -1,7 +1,8 @@
 -- Answers as bytes.
-use Rattle.std.specs.Prelude.{◌≡◌, ℕ, ◌/◌, ◌%◌, List, [], ◌∷◌, ◌++◌, codes, slice_index}
+use Rattle.std.specs.Prelude.{◌≡◌, ℕ, List, [], ◌∷◌, ◌++◌, codes}
 use Rattle.std.specs.Fmt.{decimal}
 use Rattle.std.specs.List.{flat_map}
+use Rattle.dl_types.specs.declared.place.Continuation.{Continuation}
 use Rattle.dl_types.specs.declared.refusal.Refusal.{Refusal}
 use Rattle.dl_types.specs.declared.reply.Reply.{Reply}
 use Rattle.dl_types.specs.declared.reply.Reply.TheVariants as reply
@@ -9,11 +10,8 @@ use Rattle.dl_types.specs.declared.reply.Turn.{Turn}
 use Rattle.dl_types.specs.declared.reply.Turn.TheVariants.{Drained, Idle, Fault}
 use Rattle.dl_types.specs.Name.{name_text}
 use Rattle.dl_types.specs.Printed.{characters_of}
-use Rattle.dl_app.specs.declared.answer.TheConstants.{DIGITS}
-
--- a byte in two digits
-abbrev pub hex : ℕ → List ℕ
-hex byte = slice_index DIGITS (byte / 16) ∷ slice_index DIGITS (byte % 16) ∷ []
+pub use Rattle.dl_app.specs.Hex.{hex}
+use Rattle.dl_app.specs.InfoText.{info_text}
 
 -- an item after a space: each byte in two digits, or `-` if it is empty
 abbrev pub item_text : List ℕ → List ℕ
@@ -23,6 +21,10 @@ item_text (b ∷ bytes) = 32 ∷ flat_map hex (b ∷ bytes)
 -- a number of bad bytes, and then items
 abbrev pub items_text : ℕ → List (List ℕ) → List ℕ
 items_text bad items = codes "items " ++ decimal bad ++ flat_map item_text items
+
+-- the generation of the file that a place is in, and how many of its items are passed
+abbrev pub place_text : Continuation → List ℕ
+place_text place = codes "at " ++ decimal place.generation ++ codes " " ++ decimal place.passed
 
 -- a text says why a call is refused: which text it is is left open here
 abbrev pub IsRefusalText : Refusal → List ℕ → Type 0
@@ -45,6 +47,8 @@ IsReplyText (reply.Repaired recovered bad) text = text ≡ repaired_text recover
 IsReplyText reply.Done text = text ≡ codes "done"
 IsReplyText (reply.Items next items bad) text = text ≡ items_text bad items
 IsReplyText reply.Eof text = text ≡ codes "eof"
+IsReplyText (reply.At place) text = text ≡ place_text place
+IsReplyText (reply.Info info) text = text ≡ info_text info
 IsReplyText (reply.Turn turn) text = text ≡ turn_text turn
 IsReplyText (reply.Refused refusal) text = IsRefusalText refusal text
 IsReplyText reply.OutOfMemory text = text ≡ codes "out of memory"

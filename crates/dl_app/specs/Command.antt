@@ -1,17 +1,20 @@
 -- The forms of a line, and the call that its words ask for.
-use Rattle.std.specs.Prelude.{◌≡◌, ℕ, true, List, [], ◌∷◌, map, Option, Some, None, codes}
+use Rattle.std.specs.Prelude.{◌≡◌, ℕ, ℤ, true, List, [], ◌∷◌, map, Option, Some, None, codes}
+use Rattle.std.specs.Borrow.{Bor}
 use Rattle.std.specs.List.{list_all}
 use Rattle.dl_types.specs.declared.call.Call.{Call}
 use Rattle.dl_types.specs.declared.call.Call.TheVariants as call
+use Rattle.dl_types.specs.declared.name.Base.{Base}
 use Rattle.dl_types.specs.declared.name.ClientId.{ClientId}
 use Rattle.dl_types.specs.declared.name.Name.{Name}
 use Rattle.dl_types.specs.declared.place.Place.{Place}
 use Rattle.dl_types.specs.declared.place.Place.TheVariants as place
 use Rattle.dl_types.specs.declared.refusal.Refusal.{Refusal}
 use Rattle.dl_types.specs.declared.size.Kind.{Kind}
-use Rattle.dl_types.specs.declared.size.Kind.TheVariants.{Halt}
-use Rattle.dl_types.specs.declared.size.OpenArgs.{OpenArgs}
-use Rattle.dl_types.specs.Name.{IsNameText, name_of}
+use Rattle.dl_types.specs.declared.size.Kind.TheVariants.{Halt, Wrap}
+use Rattle.dl_types.specs.declared.size.Size.{Size}
+use Rattle.dl_types.specs.Mode.{plain_args, is_served}
+use Rattle.dl_types.specs.Name.{IsNameText, name_of, base_from}
 use Rattle.dl_types.specs.FileText.{IsFileName, file_text}
 use Rattle.dl_app.specs.declared.command.Command.{Command}
 use Rattle.dl_app.specs.declared.command.Command.TheVariants as command
@@ -19,19 +22,26 @@ use Rattle.dl_app.specs.declared.command.Request.{Request}
 use Rattle.dl_app.specs.declared.command.Request.TheVariants as request
 use Rattle.dl_app.specs.declared.command.Start.{Start}
 use Rattle.dl_app.specs.declared.command.Start.TheVariants as start
-use Rattle.dl_app.specs.Words.{words_left, number_in, client_of}
-use Rattle.dl_app.specs.Options.{MakeArgs}
-use Rattle.dl_app.specs.Items.{is_item, item_bytes, refusal_of}
+use Rattle.dl_app.specs.Words.{words_left, number_in, client_of, whole_in, step_of, WritesSize}
+use Rattle.dl_app.specs.declared.options.Settings.{Settings}
+use Rattle.dl_app.specs.Options.{SetAll}
+use Rattle.dl_app.specs.Settings.{args_of}
+use Rattle.dl_app.specs.Items.{is_item, item_bytes, refusal_of, head_bytes, head_refusal}
 
 -- the word of a kind of log
 abbrev pub kind_word : Kind → List ℕ
 kind_word Halt = codes "halt"
+kind_word Wrap = codes "wrap"
+
+-- a word names a kind of log, and logs of this kind are served
+abbrev pub GivesKind : List ℕ → Kind → Type 0
+GivesKind word kind = (is_served kind ≡ true) × (word ≡ kind_word kind)
 
 -- how a log is to be opened: its kind, and then its options
-abbrev pub GivesArgs : List (List ℕ) → OpenArgs → Type 0
-GivesArgs words args = (options : List (List ℕ)) × MakeArgs options args.kind args × (words ≡ kind_word args.kind ∷ options)
+abbrev pub GivesArgs : List (List ℕ) → Kind → Settings → Type 0
+GivesArgs words kind settings = (word : List ℕ) × (options : List (List ℕ)) × GivesKind word kind × SetAll options settings × (words ≡ word ∷ options)
 
--- the word for where a chunk is to begin
+-- the word for where a chunk or a step is to begin
 abbrev pub start_word : Start → List ℕ
 start_word start.First = codes "start"
 start_word start.Next = codes "next"
@@ -40,18 +50,49 @@ start_word start.Next = codes "next"
 abbrev pub GivesChunk : List (List ℕ) → Start → ℕ → Type 0
 GivesChunk words from most = (count : List ℕ) × (number_in count ≡ Some most) × (words ≡ start_word from ∷ count ∷ [])
 
+-- where a step is to begin, and then how many files on by age it leads
+abbrev pub GivesStep : List (List ℕ) → Start → ℤ → Type 0
+GivesStep words from by = (count : List ℕ) × (step_of (whole_in count) ≡ Some by) × (words ≡ start_word from ∷ count ∷ [])
+
+-- a word of an item, or none
+abbrev pub GivesHead : List (List ℕ) → Option (Bor (List ℕ)) → Type 0
+GivesHead words None = words ≡ []
+GivesHead words (Some word) = (is_item word.now ≡ true) × (words ≡ word.now ∷ [])
+
+-- a base, and then a word of an item, or none
+abbrev pub GivesMove : List (List ℕ) → Base → Option (Bor (List ℕ)) → Type 0
+GivesMove words target head = (base : List ℕ) × (others : List (List ℕ)) × IsNameText base × (target ≡ base_from base) × GivesHead others head × (words ≡ base ∷ others)
+
+-- a size
+abbrev pub GivesSize : List (List ℕ) → Size → Type 0
+GivesSize words size = (word : List ℕ) × WritesSize word (Some size) × (words ≡ word ∷ [])
+
 -- the word of a call
 abbrev pub request_word : Request → List ℕ
-request_word (request.Open args) = codes "open"
+request_word (request.Open kind settings) = codes "open"
 request_word (request.Log items) = codes "log"
 request_word (request.Chunk from most) = codes "chunk"
+request_word (request.ChunkStep from by) = codes "step"
+request_word (request.Truncate head) = codes "truncate"
+request_word (request.Reopen target head) = codes "reopen"
+request_word request.NextFile = codes "nextfile"
+request_word (request.ChangeSize size) = codes "size"
+request_word request.Sync = codes "sync"
+request_word request.Info = codes "info"
 request_word request.Close = codes "close"
 
 -- the words of a call after the name of its log
 abbrev pub GivesRequest : List (List ℕ) → Request → Type 0
-GivesRequest words (request.Open args) = GivesArgs words args
+GivesRequest words (request.Open kind settings) = GivesArgs words kind settings
 GivesRequest words (request.Log items) = (list_all is_item words ≡ true) × (words_left items ≡ words)
 GivesRequest words (request.Chunk from most) = GivesChunk words from most
+GivesRequest words (request.ChunkStep from by) = GivesStep words from by
+GivesRequest words (request.Truncate head) = GivesHead words head
+GivesRequest words (request.Reopen target head) = GivesMove words target head
+GivesRequest words request.NextFile = words ≡ []
+GivesRequest words (request.ChangeSize size) = GivesSize words size
+GivesRequest words request.Sync = words ≡ []
+GivesRequest words request.Info = words ≡ []
 GivesRequest words request.Close = words ≡ []
 
 -- a client, the word of a call, the name of a log, and the other words of the call
@@ -67,21 +108,35 @@ IsForm words (command.Exit client) = (first : List ℕ) × (client_of (number_in
 IsForm words (command.File file) = IsFileName file × (words ≡ codes "file" ∷ file_text file ∷ [])
 IsForm words command.Flush = words ≡ codes "flush" ∷ []
 
--- where a chunk begins
+-- where a chunk or a step begins
 abbrev pub place_from : Start → Place → Place
 place_from start.First next = place.Start
 place_from start.Next next = next
 
 -- the call that is asked for
 abbrev pub call_in : {Z : Type 0} → Request → Place → Call Z
-call_in (request.Open args) next = call.Open args
+call_in (request.Open kind settings) next = call.Open (args_of settings (plain_args kind))
 call_in (request.Log items) next = call.Log (map item_bytes (words_left items))
 call_in (request.Chunk from most) next = call.Chunk (place_from from next) most
+call_in (request.ChunkStep from by) next = call.ChunkStep (place_from from next) by
+call_in (request.Truncate head) next = call.Truncate (head_bytes head)
+call_in (request.Reopen target head) next = call.Reopen target (head_bytes head)
+call_in request.NextFile next = call.NextFile
+call_in (request.ChangeSize size) next = call.ChangeSize size
+call_in request.Sync next = call.Sync
+call_in request.Info next = call.Info
 call_in request.Close next = call.Close
 
 -- why it is refused before it is a call
 abbrev pub refusal_in : Request → Option Refusal
-refusal_in (request.Open args) = None
+refusal_in (request.Open kind settings) = head_refusal settings.head
 refusal_in (request.Log items) = refusal_of (words_left items)
 refusal_in (request.Chunk from most) = None
+refusal_in (request.ChunkStep from by) = None
+refusal_in (request.Truncate head) = head_refusal head
+refusal_in (request.Reopen target head) = head_refusal head
+refusal_in request.NextFile = None
+refusal_in (request.ChangeSize size) = None
+refusal_in request.Sync = None
+refusal_in request.Info = None
 refusal_in request.Close = None

@@ -1,5 +1,6 @@
 -- Items as words of a line.
 use Rattle.std.specs.Prelude.{◌≡◌, ℕ, ◌-◌, List, Bool, ◌||◌, ◌&&◌, ◌==◌, nat_lt, nat_le, Option, Some, None, is_some, length, take, slice_index, replicate, if◌then◌else◌}
+use Rattle.std.specs.Borrow.{Bor}
 use Rattle.std.specs.List.{list_all, list_any}
 use Rattle.std.specs.Char.{is_ascii_graphic}
 use Rattle.dl_types.specs.declared.limits.TheConstants.{ITEM_LIMIT}
@@ -46,6 +47,16 @@ abbrev pub refusal_of : List (List ℕ) → Option Refusal
 refusal_of words =
     if list_any is_too_long words then Some (refusal.BadArg argument.Item)
     else (if length words == 0 then Some (refusal.BadArg argument.Items) else None)
+
+-- the item of a word, if there is one
+abbrev pub head_bytes : Option (Bor (List ℕ)) → Option (List ℕ)
+head_bytes None = None
+head_bytes (Some word) = Some (item_bytes word.now)
+
+-- why it is refused
+abbrev pub head_refusal : Option (Bor (List ℕ)) → Option Refusal
+head_refusal None = None
+head_refusal (Some word) = if is_too_long word.now then Some (refusal.BadArg argument.Item) else None
 
 -- what a word is read as
 abbrev pub IsReadAs : List ℕ → Written → Type 0

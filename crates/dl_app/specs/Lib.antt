@@ -2,9 +2,12 @@ pub mod Words
 pub mod Options
 pub mod Settings
 pub mod Items
+pub mod Command
+pub mod Hex
+pub mod InfoText
 pub mod Answers
+pub mod Notices
 pub mod Places
 pub mod Lines
-pub mod Command
 pub mod Script
 pub mod Session

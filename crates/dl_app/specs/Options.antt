@@ -1,18 +1,18 @@
 -- The options of an open, and the arguments that they make.
 use Rattle.std.specs.Prelude.{◌≡◌, ℕ, List, [], ◌∷◌, ◌++◌, Bool, true, false, Some, codes, ⊤}
 use Rattle.std.specs.List.{fold, list_any}
-use Rattle.dl_types.specs.declared.size.Kind.{Kind}
 use Rattle.dl_types.specs.declared.size.Link.{Link}
 use Rattle.dl_types.specs.declared.size.Link.TheVariants.{Owner, Anonymous}
 use Rattle.dl_types.specs.declared.size.Mode.{Mode}
 use Rattle.dl_types.specs.declared.size.Mode.TheVariants.{ReadWrite, ReadOnly}
-use Rattle.dl_types.specs.declared.size.OpenArgs.{OpenArgs}
 use Rattle.dl_types.specs.declared.size.Repair.{Repair}
 use Rattle.dl_types.specs.declared.size.Repair.TheVariants.{Yes, No, Truncate}
-use Rattle.dl_types.specs.Mode.{plain_args}
 use Rattle.dl_types.specs.Name.{IsNameText, base_from}
 use Rattle.dl_app.specs.declared.options.Setting.{Setting}
 use Rattle.dl_app.specs.declared.options.Setting.TheVariants as setting
+use Rattle.dl_app.specs.declared.options.Settings.{Settings}
+use Rattle.dl_app.specs.Items.{is_item}
+use Rattle.dl_app.specs.Settings.{no_settings, also_set}
 use Rattle.dl_app.specs.Words.{WritesSize}
 
 -- the word of a mode
@@ -42,6 +42,7 @@ WritesSetting option (setting.Base base) = (word : List ℕ) × IsNameText word 
 WritesSetting option (setting.Size size) = (word : List ℕ) × WritesSize word (Some size) × (option ≡ codes "size=" ++ word)
 WritesSetting option (setting.Mode mode) = option ≡ codes "mode=" ++ mode_word mode
 WritesSetting option (setting.Repair repair) = option ≡ codes "repair=" ++ repair_word repair
+WritesSetting option (setting.Head head) = (is_item head.now ≡ true) × (option ≡ codes "head=" ++ head.now)
 WritesSetting option (setting.Notify notify) = option ≡ codes "notify=" ++ notify_word notify
 WritesSetting option (setting.Link link) = option ≡ codes "link=" ++ link_word link
 
@@ -58,6 +59,7 @@ is_same_sort (setting.Base base) (setting.Base other) = true
 is_same_sort (setting.Size size) (setting.Size other) = true
 is_same_sort (setting.Mode mode) (setting.Mode other) = true
 is_same_sort (setting.Repair repair) (setting.Repair other) = true
+is_same_sort (setting.Head head) (setting.Head other) = true
 is_same_sort (setting.Notify notify) (setting.Notify other) = true
 is_same_sort (setting.Link link) (setting.Link other) = true
 is_same_sort s t = false
@@ -71,15 +73,6 @@ AreOfOwnSorts (s ∷ settings) = (list_any (is_same_sort s) settings ≡ false) 
 abbrev pub GiveSettings : List (List ℕ) → List Setting → Type 0
 GiveSettings options settings = WriteSettings options settings × AreOfOwnSorts settings
 
--- arguments with a setting
-abbrev pub with_setting : OpenArgs → Setting → OpenArgs
-with_setting args (setting.Base base) = record args { base = Some base }
-with_setting args (setting.Size size) = record args { size = Some size }
-with_setting args (setting.Mode mode) = record args { mode = mode }
-with_setting args (setting.Repair repair) = record args { repair = repair }
-with_setting args (setting.Notify notify) = record args { notify = notify }
-with_setting args (setting.Link link) = record args { link = link }
-
--- the arguments of an open of a log of this kind with these options
-abbrev pub MakeArgs : List (List ℕ) → Kind → OpenArgs → Type 0
-MakeArgs options kind args = (settings : List Setting) × GiveSettings options settings × (args ≡ fold with_setting (plain_args kind) settings)
+-- all that options set
+abbrev pub SetAll : List (List ℕ) → Settings → Type 0
+SetAll options all = (settings : List Setting) × GiveSettings options settings × (all ≡ fold also_set no_settings settings)

@@ -24,13 +24,19 @@ start_or (Some place) = At place
 abbrev pub place_of : {Z : Type 0} → Places Z → ClientId → Name → Place
 place_of places client log = start_or (get same_reader places.given (record { client = client; log = log }))
 
--- where clients go on after a reply to one of them
+-- where clients go on once one of them was given a place
+abbrev pub given_place : Continuation → ClientId → Name → (ClientId → Name → Place) → ClientId → Name → Place
+given_place next client log places = λ c l. if same_client client c && same_name log l then At next else places c l
+
+-- where clients go on after a reply to one of them: at the place behind its items, or at the place that a step led to
 abbrev pub places_after : {Z : Type 0} → Reply Z → ClientId → Name → (ClientId → Name → Place) → ClientId → Name → Place
 places_after reply.Opened client log places = places
 places_after (reply.Repaired recovered bad) client log places = places
 places_after reply.Done client log places = places
-places_after (reply.Items next items bad) client log places = λ c l. if same_client client c && same_name log l then At next else places c l
+places_after (reply.Items next items bad) client log places = given_place next client log places
 places_after reply.Eof client log places = places
+places_after (reply.At next) client log places = given_place next client log places
+places_after (reply.Info info) client log places = places
 places_after (reply.Turn turn) client log places = places
 places_after (reply.Refused refusal) client log places = places
 places_after reply.OutOfMemory client log places = places

@@ -23,7 +23,8 @@ use Rattle.dl_hub.specs.Run.{IsRun}
 use Rattle.dl_app.specs.declared.command.Command.{Command}
 use Rattle.dl_app.specs.declared.command.Command.TheVariants as command
 use Rattle.dl_app.specs.declared.lines.TheConstants.{LINE_LIMIT, LINES_LIMIT}
-use Rattle.dl_app.specs.Answers.{hex, IsLineOf, IsRefusalText, IsReplyText}
+use Rattle.dl_app.specs.Answers.{hex, IsLineOf, IsRefusalText}
+use Rattle.dl_app.specs.Notices.{IsOutcomeText}
 use Rattle.dl_app.specs.Command.{IsForm, call_in, refusal_in}
 use Rattle.dl_app.specs.Lines.{is_passed_over}
 use Rattle.dl_app.specs.Places.{places_after}
@@ -62,10 +63,10 @@ module _ {D : Type 0} (state : D → DiskState) where
   ShowsFile file old new answer = (shown : Result (Option (List ℕ)) FileFault) × HasRead file old new shown × IsLineOf (IsShown file shown) answer
 
 module _ {D : Type 0} (state : D → DiskState) (Z : Type 0) where
-  -- an event is run by itself, and its reply is the answer
+  -- an event is run by itself, and the answer is its reply with the notices
   pub record AnswersEvent (event : Event Z) (outcome : Outcome Z) (old new : HubView D) (answer : List ℕ) : Type 0 where
     pub run : IsRun state old new (event ∷ []) (outcome ∷ [])
-    pub line : IsLineOf (IsReplyText outcome.reply) answer
+    pub line : IsLineOf (IsOutcomeText outcome) answer
 
   -- a call is run as an event; one that is refused before changes nothing
   abbrev pub IsCalled : Option Refusal → ClientId → Name → Call Z → Stage D → Stage D → List ℕ → Type 0

@@ -1,12 +1,13 @@
 -- The words of a line, and the numbers that they write.
-use Rattle.std.specs.Prelude.{◌≡◌, ◌≢◌, ℕ, List, [], ◌==◌, ◌&&◌, ◌^◌, Option, Some, None, codes, nat_lt, length, if◌then◌else◌}
+use Rattle.std.specs.Prelude.{◌≡◌, ◌≢◌, ℕ, ℤ, pos, negsuc, neg_ℤ, List, [], ◌∷◌, Bool, ◌==◌, ◌&&◌, ◌^◌, Option, Some, None, codes, nat_lt, length, if◌then◌else◌}
 use Rattle.std.specs.Borrow.{Bor}
 use Rattle.std.specs.List.{slice_split, list_all}
+use Rattle.std.specs.Option.{option_map}
 use Rattle.std.specs.Char.{is_ascii_digit}
 use Rattle.std.specs.Str.Parse.{digits_value}
 use Rattle.dl_types.specs.declared.name.ClientId.{ClientId}
 use Rattle.dl_types.specs.declared.size.Size.{Size}
-use Rattle.dl_types.specs.declared.size.Size.TheVariants.{Infinity, Limit}
+use Rattle.dl_types.specs.declared.size.Size.TheVariants.{Infinity, Limit, Wrap}
 use Rattle.dl_app.specs.declared.words.Words.{Words}
 
 -- the words of a text, which one space parts
@@ -32,8 +33,24 @@ abbrev pub client_of : Option ℕ → Option ClientId
 client_of None = None
 client_of (Some n) = if nat_lt n (2 ^ 32) then Some (record { 0 = n }) else None
 
--- a word writes this size, or none
+-- the whole number that digits write, or a minus sign and digits: `-0` writes 0, and zeros may lead
+abbrev pub whole_in : List ℕ → Option ℤ
+whole_in [] = None
+whole_in (b ∷ bytes) = if b == 45 then option_map (λ n. neg_ℤ (pos n)) (number_in bytes) else option_map pos (number_in (b ∷ bytes))
+
+-- a whole number from -2147483648 to 2147483647
+abbrev pub has_32_bits : ℤ → Bool
+has_32_bits (pos n) = nat_lt n (2 ^ 31)
+has_32_bits (negsuc n) = nat_lt n (2 ^ 31)
+
+-- the number of files that a step leads on, where it has 32 bits
+abbrev pub step_of : Option ℤ → Option ℤ
+step_of None = None
+step_of (Some n) = if has_32_bits n then Some n else None
+
+-- a word writes this size, or none; no word writes that of a wrap log
 abbrev pub WritesSize : List ℕ → Option Size → Type 0
 WritesSize word None = (word ≢ codes "inf") × (number_in word ≡ None)
 WritesSize word (Some Infinity) = word ≡ codes "inf"
 WritesSize word (Some (Limit n)) = (word ≢ codes "inf") × (number_in word ≡ Some n)
+WritesSize word (Some (Wrap bytes files)) = ⊥

@@ -1,22 +1,23 @@
 // The forms of a line.
-ghost use Rattle.std.specs.Prelude.{◌≡◌, ◌≢◌, ℕ, ◌∷◌, IfSome, IfNone, IfOk, IfErr, Err, codes};
+ghost use Rattle.std.specs.Prelude.{◌≡◌, ◌≢◌, ℕ, ℤ, ◌∷◌, List, Option, IfSome, IfNone, codes};
+ghost use Rattle.std.specs.Borrow.{Bor};
 ghost use Rattle.std.specs.List.{list_all};
-ghost use Rattle.dl_types.specs.declared.size.OpenArgs.{OpenArgs};
+ghost use Rattle.dl_types.specs.declared.size.Size.{Size};
+ghost use Rattle.dl_types.specs.declared.name.Base.{Base};
+ghost use Rattle.dl_types.specs.declared.size.Kind.{Kind};
+ghost use Rattle.dl_app.specs.declared.options.Settings.{Settings};
 ghost use Rattle.dl_app.specs.declared.command.Command.{Command};
 ghost use Rattle.dl_app.specs.declared.command.Request.{Request};
 ghost use Rattle.dl_app.specs.declared.command.Start.{Start};
 ghost use Rattle.dl_app.specs.Lines.{is_passed_over};
-ghost use Rattle.dl_app.specs.Places.{place_of};
 ghost use Rattle.dl_app.specs.Items.{is_item};
 ghost use Rattle.dl_app.specs.Words.{words_of, words_left};
-ghost use Rattle.dl_app.specs.Command.{IsForm, GivesRequest, GivesArgs, GivesChunk, request_word, start_word, call_in, refusal_in};
+ghost use Rattle.dl_app.specs.Command.{IsForm, GivesRequest, GivesArgs, GivesKind, GivesChunk, GivesStep, GivesHead, GivesMove, GivesSize, request_word, start_word};
 
-use crate::items::{is_item, items_of};
-use crate::options::args_in;
-use crate::places::Places;
-use crate::words::{Words, client, number};
-use dl_types::{Call, ClientId, Fail, FileName, Kind, Name, OpenArgs, Place};
-use std::alloc::Allocator;
+use crate::items::is_item;
+use crate::options::{Settings, settings_in};
+use crate::words::{Words, client, number, size, step};
+use dl_types::{Base, ClientId, FileName, Kind, Name, Size};
 
 /// What a line asks for.
 #[derive(Clone, Copy)]
@@ -38,14 +39,36 @@ pub enum Command<'a> {
 /// A call on a log as its words write it: neither its items nor its place are there yet.
 #[derive(Clone, Copy)]
 pub enum Request<'a> {
-    Open(OpenArgs),
+    Open {
+        kind: Kind,
+        settings: Settings<'a>,
+    },
     /// The words after the name, each of which writes an item.
     Log(Words<'a>),
-    Chunk { from: Start, most: u64 },
+    Chunk {
+        from: Start,
+        most: u64,
+    },
+    ChunkStep {
+        from: Start,
+        by: i32,
+    },
+    /// The word of the head item, if there is one.
+    Truncate {
+        head: Option<&'a [u8]>,
+    },
+    Reopen {
+        target: Base,
+        head: Option<&'a [u8]>,
+    },
+    NextFile,
+    ChangeSize(Size),
+    Sync,
+    Info,
     Close,
 }
 
-/// The place at which a chunk is to begin.
+/// The place at which a chunk or a step is to begin.
 #[derive(Clone, Copy)]
 pub enum Start {
     /// At the first item.
@@ -113,7 +136,7 @@ fn verb_of<'a>(verb: &[u8], words: Words<'a>) -> Option<Request<'a>>
     ensures none { IfNone result ((request : Request) → verb.now ≡ request_word request → GivesRequest (words_left words.entry) request → ⊥) }
 {
     if verb == b"open".as_slice() {
-        Some(Request::Open(open_args(words)?))
+        open_of(words)
     } else if verb == b"log".as_slice() {
         if !are_items(words) {
             return None;
@@ -121,6 +144,20 @@ fn verb_of<'a>(verb: &[u8], words: Words<'a>) -> Option<Request<'a>>
         Some(Request::Log(words))
     } else if verb == b"chunk".as_slice() {
         chunk_of(words)
+    } else if verb == b"step".as_slice() {
+        step_of(words)
+    } else if verb == b"truncate".as_slice() {
+        truncate_of(words)
+    } else if verb == b"reopen".as_slice() {
+        reopen_of(words)
+    } else if verb == b"nextfile".as_slice() {
+        words.is_empty().then_some(Request::NextFile)
+    } else if verb == b"size".as_slice() {
+        size_of(words)
+    } else if verb == b"sync".as_slice() {
+        words.is_empty().then_some(Request::Sync)
+    } else if verb == b"info".as_slice() {
+        words.is_empty().then_some(Request::Info)
     } else if verb == b"close".as_slice() {
         words.is_empty().then_some(Request::Close)
     } else {
@@ -129,14 +166,25 @@ fn verb_of<'a>(verb: &[u8], words: Words<'a>) -> Option<Request<'a>>
 }
 
 // The kind, and then the options.
-fn open_args(mut words: Words<'_>) -> Option<OpenArgs>
-    ensures form { IfSome result (λ args. GivesArgs (words_left words.entry) args) }
-    ensures none { IfNone result ((args : OpenArgs) → GivesArgs (words_left words.entry) args → ⊥) }
+fn open_of(mut words: Words<'_>) -> Option<Request<'_>>
+    ensures form { IfSome result (λ request. (request_word request ≡ codes "open") × GivesRequest (words_left words.entry) request) }
+    ensures none { IfNone result ((kind : Kind) (settings : Settings) → GivesArgs (words_left words.entry) kind settings → ⊥) }
 {
-    if words.next()? != b"halt".as_slice() {
-        return None;
+    let kind = kind_of(words.next()?)?;
+    let settings = settings_in(words)?;
+    Some(Request::Open { kind, settings })
+}
+
+// The kind of log that a word names, if logs of it are served.
+fn kind_of(word: &[u8]) -> Option<Kind>
+    ensures form { IfSome result (λ kind. GivesKind word.now kind) }
+    ensures none { IfNone result ((kind : Kind) → GivesKind word.now kind → ⊥) }
+{
+    if word == b"halt".as_slice() {
+        Some(Kind::Halt)
+    } else {
+        None
     }
-    args_in(Kind::Halt, words)
 }
 
 // Whether each word writes an item.
@@ -161,6 +209,16 @@ fn chunk_of(mut words: Words<'_>) -> Option<Request<'_>>
     words.is_empty().then_some(Request::Chunk { from, most })
 }
 
+// The place at which a step is to begin, and how many files on it leads.
+fn step_of(mut words: Words<'_>) -> Option<Request<'_>>
+    ensures form { IfSome result (λ request. (request_word request ≡ codes "step") × GivesRequest (words_left words.entry) request) }
+    ensures none { IfNone result ((from : Start) (by : ℤ) → GivesStep (words_left words.entry) from by → ⊥) }
+{
+    let from = start_of(words.next()?)?;
+    let by = step(words.next()?)?;
+    words.is_empty().then_some(Request::ChunkStep { from, by })
+}
+
 // The beginning that a word asks for.
 fn start_of(word: &[u8]) -> Option<Start>
     ensures form { IfSome result (λ from. word.now ≡ start_word from) }
@@ -175,28 +233,44 @@ fn start_of(word: &[u8]) -> Option<Start>
     }
 }
 
-/// The call that a client's words ask for, or why it is refused before it is one.
-pub fn call_of<A: Allocator + Copy>(
-    alloc: A,
-    client: ClientId,
-    log: Name,
-    request: &Request<'_>,
-    places: &Places<A>,
-) -> Result<Call<A>, Fail>
-    ensures call { IfOk result (λ call. call ≡ call_in request.now (place_of places.now client log)) }
-    ensures refused { IfSome (refusal_in request.now) (λ refusal. result ≡ Err (Fail.Refused refusal)) }
-    ensures memory { IfNone (refusal_in request.now) (IfErr result (λ fail. fail ≡ Fail.OutOfMemory)) }
+// The item that a log is to begin with once it is emptied, if there is one.
+fn truncate_of(words: Words<'_>) -> Option<Request<'_>>
+    ensures form { IfSome result (λ request. (request_word request ≡ codes "truncate") × GivesRequest (words_left words.entry) request) }
+    ensures none { IfNone result ((head : Option (Bor (List ℕ))) → GivesHead (words_left words.entry) head → ⊥) }
 {
-    Ok(match *request {
-        Request::Open(args) => Call::Open(args),
-        Request::Log(words) => Call::Log(items_of(alloc, words)?),
-        Request::Chunk { from, most } => Call::Chunk {
-            from: match from {
-                Start::First => Place::Start,
-                Start::Next => places.next(client, log),
-            },
-            most,
-        },
-        Request::Close => Call::Close,
-    })
+    let head = head_in(words)?;
+    Some(Request::Truncate { head })
+}
+
+// The base that a log's file is to have, and the item that its next file is to begin with, if there is one.
+fn reopen_of(mut words: Words<'_>) -> Option<Request<'_>>
+    ensures form { IfSome result (λ request. (request_word request ≡ codes "reopen") × GivesRequest (words_left words.entry) request) }
+    ensures none { IfNone result ((target : Base) (head : Option (Bor (List ℕ))) → GivesMove (words_left words.entry) target head → ⊥) }
+{
+    let target = Base::parse(words.next()?)?;
+    let head = head_in(words)?;
+    Some(Request::Reopen { target, head })
+}
+
+// The word of an item, if there is one, and no other.
+fn head_in<'a>(mut words: Words<'a>) -> Option<Option<&'a [u8]>>
+    ensures form { IfSome result (λ head. GivesHead (words_left words.entry) head) }
+    ensures none { IfNone result ((head : Option (Bor (List ℕ))) → GivesHead (words_left words.entry) head → ⊥) }
+{
+    let Some(word) = words.next() else {
+        return Some(None);
+    };
+    if !is_item(word) || !words.is_empty() {
+        return None;
+    }
+    Some(Some(word))
+}
+
+// The size that a log is to have.
+fn size_of(mut words: Words<'_>) -> Option<Request<'_>>
+    ensures form { IfSome result (λ request. (request_word request ≡ codes "size") × GivesRequest (words_left words.entry) request) }
+    ensures none { IfNone result ((size : Size) → GivesSize (words_left words.entry) size → ⊥) }
+{
+    let size = size(words.next()?)?;
+    words.is_empty().then_some(Request::ChangeSize(size))
 }

@@ -4,7 +4,7 @@ ghost use Rattle.std.specs.List.{list_all, list_any};
 ghost use Rattle.dl_types.specs.declared.refusal.Argument.TheVariants as argument;
 ghost use Rattle.dl_types.specs.declared.refusal.Refusal.TheVariants as refusal;
 ghost use Rattle.dl_app.specs.Words.{words_left};
-ghost use Rattle.dl_app.specs.Items.{is_item, is_item_byte, item_bytes, is_too_long, refusal_of, IsReadAs};
+ghost use Rattle.dl_app.specs.Items.{is_item, is_item_byte, item_bytes, is_too_long, refusal_of, IsReadAs, head_bytes, head_refusal};
 
 use crate::words::{Words, number};
 use dl_types::{Argument, Fail, ITEM_LIMIT, Item, Items, Refusal};
@@ -93,6 +93,18 @@ pub fn item_of<A: Allocator>(alloc: A, word: &[u8]) -> Result<Item<A>, Fail>
     match bytes {
         Ok(bytes) => Item::of(bytes).map_err(Fail::Refused),
         Err(_) => Err(Fail::OutOfMemory),
+    }
+}
+
+/// Makes the item of a word, if there is one.
+pub fn head_of<A: Allocator>(alloc: A, head: Option<&[u8]>) -> Result<Option<Item<A>>, Fail>
+    ensures same { IfOk result (λ item. item ≡ head_bytes head.entry) }
+    ensures refused { IfSome (head_refusal head.entry) (λ refusal. result ≡ Err (Fail.Refused refusal)) }
+    ensures memory { IfNone (head_refusal head.entry) (IfErr result (λ fail. fail ≡ Fail.OutOfMemory)) }
+{
+    match head {
+        None => Ok(None),
+        Some(word) => Ok(Some(item_of(alloc, word)?)),
     }
 }
 

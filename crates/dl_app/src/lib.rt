@@ -2,10 +2,13 @@
 #![tactic(auto)]
 
 mod answer;
+mod call;
 mod command;
 mod fault;
+mod info;
 mod items;
 mod lines;
+mod notice;
 mod options;
 mod places;
 mod script;

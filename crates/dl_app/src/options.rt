@@ -1,44 +1,49 @@
 // The options of an open.
-ghost use Rattle.std.specs.Prelude.{◌≡◌, Bool, List, None, Some, IfSome, IfNone, if◌then◌else◌};
-ghost use Rattle.std.specs.List.{fold};
+ghost use Rattle.std.specs.Prelude.{◌≡◌, true, false, Bool, List, None, Some, Err, IfOk, IfErr, IfSome, IfNone, if◌then◌else◌};
 ghost use Rattle.dl_types.specs.declared.size.Link.{Link};
 ghost use Rattle.dl_types.specs.declared.size.Mode.{Mode};
 ghost use Rattle.dl_types.specs.declared.size.Repair.{Repair};
-ghost use Rattle.dl_types.specs.declared.size.OpenArgs.{OpenArgs};
 ghost use Rattle.dl_types.specs.Mode.{plain_args};
 ghost use Rattle.dl_app.specs.declared.options.Setting.{Setting};
+ghost use Rattle.dl_app.specs.Items.{is_item, head_refusal};
 ghost use Rattle.dl_app.specs.Words.{words_left};
-ghost use Rattle.dl_app.specs.Options.{mode_word, repair_word, notify_word, link_word, WritesSetting, GiveSettings, MakeArgs};
+ghost use Rattle.dl_app.specs.Options.{mode_word, repair_word, notify_word, link_word, WritesSetting, GiveSettings, SetAll};
 ghost use Rattle.dl_app.specs.Settings.{no_settings, is_set, also_set, args_of};
 
+use crate::items::{head_of, is_item};
 use crate::words::{Words, size};
-use dl_types::{Base, Kind, Link, Mode, OpenArgs, Repair, Size};
+use dl_types::{Base, Fail, Kind, Link, Mode, OpenArgs, Repair, Size};
+use std::alloc::Allocator;
 
 /// What an option of an open sets.
 #[derive(Clone, Copy)]
-pub enum Setting {
+pub enum Setting<'a> {
     Base(Base),
     Size(Size),
     Mode(Mode),
     Repair(Repair),
+    /// The word of the head item.
+    Head(&'a [u8]),
     Notify(bool),
     Link(Link),
 }
 
-// What the options have set.
+/// What the options of an open have set.
 #[derive(Clone, Copy)]
-struct Settings {
+pub struct Settings<'a> {
     base: Option<Base>,
     size: Option<Size>,
     mode: Option<Mode>,
     repair: Option<Repair>,
+    // The word of the head item.
+    head: Option<&'a [u8]>,
     notify: Option<bool>,
     link: Option<Link>,
 }
 
-impl Settings {
+impl<'a> Settings<'a> {
     // Nothing is set.
-    fn none() -> Settings
+    fn none() -> Settings<'a>
         ensures { result ≡ no_settings }
     {
         Settings {
@@ -46,14 +51,15 @@ impl Settings {
             size: None,
             mode: None,
             repair: None,
+            head: None,
             notify: None,
             link: None,
         }
     }
 
     // These settings and one more, or `None` if one of its sort is among them.
-    fn with(self, setting: Setting) -> Option<Settings>
-        ensures { result ≡ (if is_set self setting then None else Some (also_set self setting)) }
+    fn with(self, setting: Setting<'a>) -> Option<Settings<'a>>
+        ensures { result ≡ (if is_set self.entry setting.entry then None else Some (also_set self.entry setting.entry)) }
     {
         match setting {
             Setting::Base(base) if self.base.is_none() => Some(Settings {
@@ -72,6 +78,10 @@ impl Settings {
                 repair: Some(repair),
                 ..self
             }),
+            Setting::Head(word) if self.head.is_none() => Some(Settings {
+                head: Some(word),
+                ..self
+            }),
             Setting::Notify(notify) if self.notify.is_none() => Some(Settings {
                 notify: Some(notify),
                 ..self
@@ -84,45 +94,49 @@ impl Settings {
         }
     }
 
-    // The arguments of an open of a log of this kind.
-    fn args(self, kind: Kind) -> OpenArgs
-        ensures { result ≡ args_of self (plain_args kind) }
+    // Adds a setting, unless one of its sort is among them.
+    fn add(&mut self, setting: Setting<'a>) -> Option<()>
+        ensures added { IfSome result (λ _. (is_set self.old setting.entry ≡ false) × (self.new ≡ also_set self.old setting.entry)) }
+        ensures twice { IfNone result (is_set self.old setting.entry ≡ true) }
     {
-        let plain = OpenArgs::of(kind);
-        OpenArgs {
+        *self = self.with(setting)?;
+        Some(())
+    }
+
+    /// The arguments of an open of a log of this kind, or why the head item is not made.
+    pub fn args<A: Allocator>(self, alloc: A, kind: Kind) -> Result<OpenArgs<A>, Fail>
+        ensures args { IfOk result (λ args. args ≡ args_of self.entry (plain_args kind)) }
+        ensures refused { IfSome (head_refusal self.entry.head) (λ refusal. result ≡ Err (Fail.Refused refusal)) }
+        ensures memory { IfNone (head_refusal self.entry.head) (IfErr result (λ fail. fail ≡ Fail.OutOfMemory)) }
+    {
+        let plain: OpenArgs<A> = OpenArgs::of(kind);
+        Ok(OpenArgs {
             base: self.base,
             kind,
             size: self.size,
             mode: self.mode.unwrap_or(plain.mode),
             repair: self.repair.unwrap_or(plain.repair),
+            head: head_of(alloc, self.head)?,
             notify: self.notify.unwrap_or(plain.notify),
             link: self.link.unwrap_or(plain.link),
-        }
+        })
     }
 }
 
-/// Reads the options of an open of a log of this kind.
-pub fn args_in(kind: Kind, options: Words<'_>) -> Option<OpenArgs>
-    ensures form { IfSome result (λ args. MakeArgs (words_left options.entry) kind args) }
-    ensures none { IfNone result ((args : OpenArgs) → MakeArgs (words_left options.entry) kind args → ⊥) }
-{
-    Some(settings_in(options)?.args(kind))
-}
-
-// The settings of options, or `None` if a word is no option or two are of one sort.
-fn settings_in(options: Words<'_>) -> Option<Settings>
-    ensures form { IfSome result (λ all. (settings : List Setting) × GiveSettings (words_left options.entry) settings × (all ≡ fold also_set no_settings settings)) }
+/// The settings of options, or `None` if a word is no option or two are of one sort.
+pub fn settings_in(options: Words<'_>) -> Option<Settings<'_>>
+    ensures form { IfSome result (SetAll (words_left options.entry)) }
     ensures none { IfNone result ((settings : List Setting) → GiveSettings (words_left options.entry) settings → ⊥) }
 {
     let mut settings = Settings::none();
     for option in options {
-        settings = settings.with(setting_in(option)?)?;
+        settings.add(setting_in(option)?)?;
     }
     Some(settings)
 }
 
 // The setting that an option writes.
-fn setting_in(option: &[u8]) -> Option<Setting>
+fn setting_in(option: &[u8]) -> Option<Setting<'_>>
     ensures form { IfSome result (λ setting. WritesSetting option.now setting) }
     ensures none { IfNone result ((setting : Setting) → WritesSetting option.now setting → ⊥) }
 {
@@ -134,6 +148,8 @@ fn setting_in(option: &[u8]) -> Option<Setting>
         Some(Setting::Mode(mode_in(word)?))
     } else if let Some(word) = option.strip_prefix(b"repair=") {
         Some(Setting::Repair(repair_in(word)?))
+    } else if let Some(word) = option.strip_prefix(b"head=") {
+        Some(Setting::Head(head_in(word)?))
     } else if let Some(word) = option.strip_prefix(b"notify=") {
         Some(Setting::Notify(notify_in(word)?))
     } else {
@@ -169,6 +185,14 @@ fn repair_in(word: &[u8]) -> Option<Repair>
     } else {
         None
     }
+}
+
+// The word of a head item.
+fn head_in(word: &[u8]) -> Option<&[u8]>
+    ensures form { IfSome result (λ head. (is_item head.now ≡ true) × (head.now ≡ word.now)) }
+    ensures none { IfNone result (is_item word.now ≡ true → ⊥) }
+{
+    if is_item(word) { Some(word) } else { None }
 }
 
 // Whether a word asks for the notices of a log.

@@ -17,7 +17,7 @@ struct Reader {
     log: Name,
 }
 
-/// The last place that a chunk gave to each client for each log.
+/// The last place that a chunk or a step gave to each client for each log.
 #[derive(Drop)]
 pub struct Places<A: Allocator> {
     given: IndexMap<Reader, Continuation, BuildHasherDefault<FoldHasher>, A>,
@@ -43,7 +43,7 @@ impl<A: Allocator + Copy> Places<A> {
         }
     }
 
-    /// Keeps the place after the items that a reply gave to a client, if it gave some.
+    /// Keeps the place that a reply gave to a client, if it gave one: that after the items of a chunk, or that of a step.
     pub fn keep_after(
         &mut self,
         client: ClientId,
@@ -53,7 +53,7 @@ impl<A: Allocator + Copy> Places<A> {
         ensures { OnOk result (place_of self.new ≡ places_after reply.now client log (place_of self.old)) }
     {
         match reply {
-            Reply::Items { next, .. } => self.keep(client, log, *next),
+            Reply::Items { next, .. } | Reply::At(next) => self.keep(client, log, *next),
             _ => Ok(()),
         }
     }

@@ -10,7 +10,8 @@ ghost use Rattle.dl_app.specs.Script.{HasNoForm, IsBadLine, IsCalled, IsLine, Is
 ghost use Rattle.dl_app.specs.Session.{stage_of, IsAnswerFault};
 
 use crate::answer::{push_hex, put_outcome, put_refusal};
-use crate::command::{Command, Request, call_of, command_of, is_passed_over};
+use crate::call::call_of;
+use crate::command::{Command, Request, command_of, is_passed_over};
 use crate::fault::ScriptFault;
 use crate::lines::{LINES_LIMIT, NextLine, next_line};
 use crate::places::Places;

@@ -1,7 +1,7 @@
 // Words of a line, and numbers.
 ghost use Rattle.std.specs.Prelude.{◌≡◌, ◌==◌, ◌<◌, ◌∷◌, IfSome, is_some, length, position};
 ghost use Rattle.std.specs.Iterator.{YieldsFirstBy, item_count};
-ghost use Rattle.dl_app.specs.Words.{words_of, words_in, words_left, number_in, client_of, WritesSize};
+ghost use Rattle.dl_app.specs.Words.{words_of, words_in, words_left, number_in, client_of, whole_in, step_of, WritesSize};
 
 use dl_types::{ClientId, Size};
 use memchr::memchr;
@@ -88,6 +88,19 @@ pub fn client(word: &[u8]) -> Option<ClientId>
         return None;
     }
     Some(ClientId(number as u32))
+}
+
+/// Reads the number of files that a step leads on. Files further back have a minus sign.
+pub fn step(word: &[u8]) -> Option<i32>
+    ensures { result ≡ step_of (whole_in word.now) }
+{
+    match word.strip_prefix(b"-") {
+        None => i32::try_from(number(word)?).ok(),
+        Some(digits) => {
+            let back = i64::try_from(number(digits)?).ok()?;
+            i32::try_from(-back).ok()
+        }
+    }
 }
 
 /// Reads the size of a log.

@@ -33,7 +33,8 @@ fn deed_of(line: Line<'_>) -> Deed<'_> {
     }
 }
 
-// The base that a step names, if it is a call that names one. An open without a base names the log's name.
+// The base that a step names, if it is a call that names one: an open without a base names the log's name, and a reopen
+// its target.
 fn named_base(step: Step<'_>) -> Option<NamedBase<'_>> {
     let Step::Line(line) = step else {
         return None;
@@ -41,11 +42,16 @@ fn named_base(step: Step<'_>) -> Option<NamedBase<'_>> {
     let mut words = line.text.split(' ').skip(1);
     let verb = words.next()?;
     let log = words.next()?;
-    if verb != "open" || line.answer == BAD_LINE {
+    if line.answer == BAD_LINE {
         return None;
     }
-    let given = words.find_map(|word| word.strip_prefix("base="));
-    let base = given.unwrap_or(log);
+    let base = match verb {
+        "open" => words
+            .find_map(|word| word.strip_prefix("base="))
+            .unwrap_or(log),
+        "reopen" => words.next()?,
+        _ => return None,
+    };
     Some(NamedBase { log, base })
 }
 

@@ -1,11 +1,11 @@
-use Rattle.std.proofs.Common.{◌≡◌, ℕ, List, true, false, sym, subst, refl}
+use Rattle.std.proofs.Common.{◌≡◌, ℕ, List, true, sym, ◌∙◌, subst, refl}
 use Rattle.dl_app.specs.declared.options.Setting.{Setting}
 use Rattle.dl_app.specs.declared.options.Settings.{Settings}
 use Rattle.dl_app.specs.Words.{words_left}
-use Rattle.dl_app.specs.Settings.{no_settings, is_set, also_set}
+use Rattle.dl_app.specs.Settings.{no_settings, is_set}
 use Rattle.dl_app.proofs.Forms.{none_holds}
-use Rattle.dl_app.proofs.Chosen.{none_given, ReadOn, both_ways, read_gives, read_more, read_less, is_new, is_twice}
-use Rattle.dl_app.proofs.Written.{one_setting}
+use Rattle.dl_app.proofs.Chosen.{none_given, ReadOn, both_ways, read_gives, read_more, read_less, set_alike}
+use Rattle.dl_app.proofs.Written.{same_sort}
 use Rattle.dl_app.proofs.options.settings_in.Goals as goal
 
 pub returns-in_err-setting_in-clause-none : goal.returns-in_err-setting_in-clause-none
@@ -14,15 +14,15 @@ returns-in_err-setting_in-clause-none c =
     (none_given (words_left c.args.options) c.loop-option.settings (words_left c.loop-option.option-iterator) c.in-Some.option.now (words_left c.next.new.self) c.in-Some.ensures.steps c.loop-option.invariant.back
     (λ (s : Setting) writes unset. c.in_err-setting_in.ensures.none s writes))
 
-pub returns-in_err-settings-clause-none : goal.returns-in_err-settings-clause-none
-returns-in_err-settings-clause-none c =
+pub returns-in_err-add-clause-none : goal.returns-in_err-add-clause-none
+returns-in_err-add-clause-none c =
     let all = c.loop-option.settings in
     let option = c.in-Some.option.now in
     let again = c.in_ok-setting_in.field-0 in
-    let set : is_set all again ≡ true = is_twice (is_set all again) (also_set all again) c.in_err-settings.ensures in
+    let set : is_set all again ≡ true = c.in_err-add.ensures.twice in
     none_holds _ _
     (none_given (words_left c.args.options) all (words_left c.loop-option.option-iterator) option (words_left c.next.new.self) c.in-Some.ensures.steps c.loop-option.invariant.back
-    (λ (s : Setting) writes unset. both_ways (is_set all again) set (subst (λ (t : Setting). is_set all t ≡ false) (one_setting option s again writes c.in_ok-setting_in.ensures.form) unset)))
+    (λ (s : Setting) writes unset. both_ways (is_set all again) set (sym (set_alike all s again (same_sort option s again writes c.in_ok-setting_in.ensures.form)) ∙ unset)))
 
 pub returns-clause-form : goal.returns-clause-form
 returns-clause-form c =
@@ -38,9 +38,9 @@ loop-option-preserved c =
     let option = c.in-Some.option.now in
     let rest = words_left c.next.new.self in
     let s = c.in_ok-setting_in.field-0 in
-    let next = c.in_ok-settings.settings in
-    let fresh = is_new (is_set all s) (also_set all s) next c.in_ok-settings.ensures in
+    let next = c.add.new.self in
+    let fresh = c.in_ok-add.ensures.added in
     record {
       on = λ (new : Settings) read. c.loop-option.invariant.on new (read_more all left option rest s next new c.in-Some.ensures.steps c.in_ok-setting_in.ensures.form fresh.0 fresh.1 read);
-      back = λ (new : Settings) read. read_less all left option rest s next new c.in-Some.ensures.steps c.in_ok-setting_in.ensures.form fresh.1 (c.loop-option.invariant.back new read);
+      back = λ read. read_less all left option rest s next c.in-Some.ensures.steps c.in_ok-setting_in.ensures.form fresh.1 (c.loop-option.invariant.back read);
     }

@@ -1,12 +1,12 @@
--- The options that are left are read on from the settings so far where all are read from none, and only there.
+-- Where the options that are left are read on from the settings so far, all are read from none; and where all can be read, those that are left can.
 use Rattle.dl_app.specs.declared.options.Settings.{Settings}
 use Rattle.dl_app.specs.Words.{words_left}
 use Rattle.dl_app.specs.Settings.{no_settings}
-use Rattle.dl_app.proofs.Chosen.{ReadOn}
+use Rattle.dl_app.proofs.Chosen.{ReadOn, CanRead}
 use Rattle.dl_app.proofs.options.settings_in.Given as goal
 
 abbrev pub invariant-loop-option : goal.invariant-loop-option
 invariant-loop-option l = record {
   on : (new : Settings) → ReadOn l.settings (words_left l.option-iterator) new → ReadOn no_settings (words_left l.options) new;
-  back : (new : Settings) → ReadOn no_settings (words_left l.options) new → ReadOn l.settings (words_left l.option-iterator) new;
+  back : CanRead no_settings (words_left l.options) → CanRead l.settings (words_left l.option-iterator);
 }

@@ -1,6 +1,7 @@
 use Rattle.std.proofs.Common.{refl, sym, subst}
 use Rattle.std.specs.Io.KnownBytes.{Appends}
-use Rattle.dl_app.specs.Answers.{IsLineOf, IsReplyText}
+use Rattle.dl_app.specs.Answers.{IsLineOf}
+use Rattle.dl_app.specs.Notices.{IsOutcomeText}
 use Rattle.dl_app.specs.Places.{place_of}
 use Rattle.dl_app.specs.Script.{IsStepped, Stage}
 use Rattle.dl_app.specs.Session.{stage_of}
@@ -11,7 +12,7 @@ pub returns-clause-done : goal.returns-clause-done
 returns-clause-done g c =
     let D = g.D.Disk in
     let outcome = c.step-outcome.result in
-    let line = subst (IsLineOf (IsReplyText outcome.reply)) (sym c.as_slice.ensures.value) c.in_ok-put_outcome.ensures.line in
+    let line = subst (IsLineOf (IsOutcomeText outcome)) (sym c.as_slice.ensures.value) c.in_ok-put_outcome.ensures.line in
     let old = stage_of c.args.hub.now c.args.self.now in
     let new : Stage g.row.D.Denot = record { hub = c.step-outcome.new.self; places = place_of c.args.self.now.places } in
     answered c.write_answer.result (IsStepped D.state g.row.A.Denot c.args.event old new)

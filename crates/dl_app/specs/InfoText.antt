@@ -1,0 +1,83 @@
+-- What a log tells about itself as bytes.
+use Rattle.std.specs.Prelude.{ℕ, List, [], ◌∷◌, ◌++◌, Bool, true, false, Option, Some, None, codes}
+use Rattle.std.specs.Fmt.{decimal}
+use Rattle.std.specs.List.{flat_map}
+use Rattle.dl_types.specs.declared.info.Extent.{Extent}
+use Rattle.dl_types.specs.declared.info.Extent.TheVariants as extent
+use Rattle.dl_types.specs.declared.info.Info.{Info}
+use Rattle.dl_types.specs.declared.info.Overflows.{Overflows}
+use Rattle.dl_types.specs.declared.info.Writing.{Writing}
+use Rattle.dl_types.specs.declared.name.Base.{Base}
+use Rattle.dl_types.specs.declared.name.Name.{Name}
+use Rattle.dl_types.specs.declared.owner.Owner.{Owner}
+use Rattle.dl_types.specs.declared.size.Kind.{Kind}
+use Rattle.dl_types.specs.declared.size.Mode.{Mode}
+use Rattle.dl_types.specs.declared.size.Size.{Size}
+use Rattle.dl_types.specs.Name.{name_text, base_text}
+use Rattle.dl_types.specs.Printed.{characters_of, size_text}
+use Rattle.dl_app.specs.Command.{kind_word}
+use Rattle.dl_app.specs.Hex.{hex}
+use Rattle.dl_app.specs.Options.{mode_word}
+
+-- the word of a truth
+abbrev pub yes_or_no : Bool → List ℕ
+yes_or_no true = codes "yes"
+yes_or_no false = codes "no"
+
+-- the name and the base
+abbrev pub names_text : Name → Base → List ℕ
+names_text log base = codes "info " ++ characters_of (name_text log) ++ codes " " ++ characters_of (base_text base)
+
+-- the kind, the size and the mode
+abbrev pub form_text : Kind → Size → Mode → List ℕ
+form_text kind size mode = codes " " ++ kind_word kind ++ codes " " ++ size_text size ++ codes " " ++ mode_word mode
+
+-- an owner, and whether it wants notices
+abbrev pub owner_text : Owner → List ℕ
+owner_text owner = decimal owner.client.0 ++ codes ":" ++ yes_or_no owner.notify
+
+-- an owner after a comma
+abbrev pub next_owner_text : Owner → List ℕ
+next_owner_text owner = 44 ∷ owner_text owner
+
+-- owners, parted by commas
+abbrev pub owners_text : List Owner → List ℕ
+owners_text [] = codes "none"
+owners_text (owner ∷ owners) = owner_text owner ++ flat_map next_owner_text owners
+
+-- the number of anonymous users
+abbrev pub users_text : ℕ → List ℕ
+users_text users = codes " users=" ++ decimal users ++ codes " ok"
+
+-- how often the log went to its next file: since it was opened, and since it was last asked
+abbrev pub overflows_text : Overflows → List ℕ
+overflows_text overflows = codes " overflows=" ++ decimal overflows.since_open ++ codes "," ++ decimal overflows.since_info
+
+-- of a wrap log the bytes and the items of the current file, the items of all files, and the number of the current file
+abbrev pub files_text : ℕ → ℕ → ℕ → ℕ → List ℕ
+files_text bytes items all file =
+    codes " bytes=" ++ decimal bytes ++ codes " items=" ++ decimal items ++ codes " all=" ++ decimal all ++ codes " file=" ++ decimal file
+
+-- whether a halt log is full, or how far the files of a wrap log have come
+abbrev pub extent_text : Extent → List ℕ
+extent_text (extent.Halt full) = codes " full=" ++ yes_or_no full
+extent_text (extent.Wrap bytes items all file overflows) = files_text bytes items all file ++ overflows_text overflows
+
+-- the head item, or that there is none
+abbrev pub head_text : Option (List ℕ) → List ℕ
+head_text None = codes "none"
+head_text (Some []) = codes "-"
+head_text (Some (b ∷ bytes)) = flat_map hex (b ∷ bytes)
+
+-- what is told in read-write mode alone
+abbrev pub writing_text : {Z : Type 0} → Writing Z → List ℕ
+writing_text writing = codes " head=" ++ head_text writing.head ++ codes " written=" ++ decimal writing.written ++ extent_text writing.extent
+
+abbrev pub more_text : {Z : Type 0} → Option (Writing Z) → List ℕ
+more_text None = []
+more_text (Some writing) = writing_text writing
+
+-- what a log tells about itself
+abbrev pub info_text : {Z : Type 0} → Info Z → List ℕ
+info_text info =
+    names_text info.log info.base ++ form_text info.kind info.size info.mode ++ codes " owners=" ++ owners_text info.owners ++ users_text info.users ++ more_text info.writing

@@ -1,0 +1,47 @@
+-- Notices, and what a line answers with them, as bytes.
+use Rattle.std.specs.Prelude.{◌≡◌, ℕ, List, [], ◌∷◌, ◌++◌, codes}
+use Rattle.std.specs.Fmt.{decimal}
+use Rattle.dl_types.specs.declared.name.ClientId.{ClientId}
+use Rattle.dl_types.specs.declared.name.Name.{Name}
+use Rattle.dl_types.specs.declared.reply.Delivery.{Delivery}
+use Rattle.dl_types.specs.declared.reply.Notice.{Notice}
+use Rattle.dl_types.specs.declared.reply.Notice.TheVariants as notice
+use Rattle.dl_types.specs.declared.reply.Outcome.{Outcome}
+use Rattle.dl_types.specs.declared.reply.Status.TheVariants as status
+use Rattle.dl_types.specs.Name.{name_text}
+use Rattle.dl_types.specs.Printed.{characters_of}
+use Rattle.dl_app.specs.Answers.{IsRefusalText, IsReplyText}
+
+-- how many items are gone with the files that the next one replaced
+abbrev pub wrap_text : ℕ → List ℕ
+wrap_text count = codes "wrap " ++ decimal count
+
+-- how many items an emptied log is said to lose
+abbrev pub truncated_text : ℕ → List ℕ
+truncated_text count = codes "truncated " ++ decimal count
+
+-- a text says this notice
+abbrev pub IsNoticeText : Notice → List ℕ → Type 0
+IsNoticeText (notice.Wrap count) text = text ≡ wrap_text count
+IsNoticeText (notice.Truncated count) text = text ≡ truncated_text count
+IsNoticeText notice.Full text = text ≡ codes "full"
+IsNoticeText (notice.ErrorStatus status.Ok) text = text ≡ codes "status ok"
+IsNoticeText (notice.ErrorStatus (status.Fault refusal)) text = (why : List ℕ) × IsRefusalText refusal why × (text ≡ codes "status " ++ why)
+
+-- a bar, the client that is told, and the log
+abbrev pub told_text : ClientId → Name → List ℕ
+told_text client log = codes " | " ++ decimal client.0 ++ codes " " ++ characters_of (name_text log) ++ codes " "
+
+-- who is told, and the notice
+abbrev pub IsDeliveryText : Delivery → List ℕ → Type 0
+IsDeliveryText delivery text = (said : List ℕ) × IsNoticeText delivery.notice said × (text ≡ told_text delivery.client delivery.log ++ said)
+
+-- notices in their order
+abbrev pub AreDeliveryTexts : List Delivery → List ℕ → Type 0
+AreDeliveryTexts [] text = text ≡ []
+AreDeliveryTexts (delivery ∷ deliveries) text =
+    (first : List ℕ) × (others : List ℕ) × IsDeliveryText delivery first × AreDeliveryTexts deliveries others × (text ≡ first ++ others)
+
+-- a reply, and then the notices
+abbrev pub IsOutcomeText : {Z : Type 0} → Outcome Z → List ℕ → Type 0
+IsOutcomeText outcome text = (reply : List ℕ) × (told : List ℕ) × IsReplyText outcome.reply reply × AreDeliveryTexts outcome.notices told × (text ≡ reply ++ told)

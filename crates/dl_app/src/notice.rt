@@ -1,0 +1,102 @@
+// Notices as text.
+ghost use Rattle.std.specs.Prelude.{◌≡◌, ◌++◌, ℕ, List, IfErr, OnOk};
+ghost use Rattle.dl_app.specs.Notices.{IsNoticeText, IsDeliveryText, AreDeliveryTexts, told_text, truncated_text, wrap_text};
+
+use crate::fault::ScriptFault;
+use dl_types::{ClientId, Delivery, Name, Notice, Refusal, Status};
+use std::alloc::Allocator;
+use std::io::Write;
+
+/// Adds notices in their order, with the client and the log of each.
+pub fn push_notices<A: Allocator + Copy>(
+    text: &mut Vec<u8, A>,
+    deliveries: &[Delivery],
+) -> Result<(), ScriptFault>
+    ensures text { OnOk result ((told : List ℕ) × AreDeliveryTexts deliveries.now told × (text.new.items ≡ text.old.items ++ told)) }
+    ensures fault { IfErr result (λ e. e ≡ ScriptFault.OutOfMemory) }
+{
+    for delivery in deliveries {
+        push_delivery(text, *delivery)?;
+    }
+    Ok(())
+}
+
+// Adds a notice after a bar, with its client and its log.
+fn push_delivery<A: Allocator + Copy>(
+    text: &mut Vec<u8, A>,
+    delivery: Delivery,
+) -> Result<(), ScriptFault>
+    ensures text { OnOk result ((told : List ℕ) × IsDeliveryText delivery told × (text.new.items ≡ text.old.items ++ told)) }
+    ensures fault { IfErr result (λ e. e ≡ ScriptFault.OutOfMemory) }
+{
+    push_told(text, delivery.client, delivery.log)?;
+    push_notice(text, delivery.notice)
+}
+
+// Adds a bar, and who is told of which log.
+fn push_told<A: Allocator>(
+    text: &mut Vec<u8, A>,
+    client: ClientId,
+    log: Name,
+) -> Result<(), ScriptFault>
+    ensures text { OnOk result (text.new.items ≡ text.old.items ++ told_text client log) }
+    ensures fault { IfErr result (λ e. e ≡ ScriptFault.OutOfMemory) }
+{
+    write!(text, " | {client} {log} ").map_err(|_| ScriptFault::OutOfMemory)
+}
+
+// Adds what a notice says.
+fn push_notice<A: Allocator + Copy>(
+    text: &mut Vec<u8, A>,
+    notice: Notice,
+) -> Result<(), ScriptFault>
+    ensures text { OnOk result ((said : List ℕ) × IsNoticeText notice said × (text.new.items ≡ text.old.items ++ said)) }
+    ensures fault { IfErr result (λ e. e ≡ ScriptFault.OutOfMemory) }
+{
+    match notice {
+        Notice::Wrap(count) => push_wrap(text, count),
+        Notice::Truncated(count) => push_truncated(text, count),
+        Notice::Full => push_bytes(text, b"full"),
+        Notice::ErrorStatus(Status::Ok) => push_bytes(text, b"status ok"),
+        Notice::ErrorStatus(Status::Fault(refusal)) => push_status(text, refusal),
+    }
+}
+
+// Adds how many items are gone with the files that the next one replaced.
+fn push_wrap<A: Allocator>(text: &mut Vec<u8, A>, count: u64) -> Result<(), ScriptFault>
+    ensures text { OnOk result (text.new.items ≡ text.old.items ++ wrap_text count) }
+    ensures fault { IfErr result (λ e. e ≡ ScriptFault.OutOfMemory) }
+{
+    write!(text, "wrap {count}").map_err(|_| ScriptFault::OutOfMemory)
+}
+
+// Adds how many items an emptied log is said to lose.
+fn push_truncated<A: Allocator>(text: &mut Vec<u8, A>, count: u64) -> Result<(), ScriptFault>
+    ensures text { OnOk result (text.new.items ≡ text.old.items ++ truncated_text count) }
+    ensures fault { IfErr result (λ e. e ≡ ScriptFault.OutOfMemory) }
+{
+    write!(text, "truncated {count}").map_err(|_| ScriptFault::OutOfMemory)
+}
+
+// Adds an error status.
+fn push_status<A: Allocator + Copy>(
+    text: &mut Vec<u8, A>,
+    refusal: Refusal,
+) -> Result<(), ScriptFault>
+    ensures text { OnOk result ((said : List ℕ) × IsNoticeText (Notice.ErrorStatus (Status.Fault refusal)) said × (text.new.items ≡ text.old.items ++ said)) }
+    ensures fault { IfErr result (λ e. e ≡ ScriptFault.OutOfMemory) }
+{
+    let mut why = Vec::new(*text.allocator());
+    write!(why, "{refusal}").map_err(|_| ScriptFault::OutOfMemory)?;
+    push_bytes(text, b"status ")?;
+    push_bytes(text, why.as_slice())
+}
+
+// Adds bytes as they are.
+fn push_bytes<A: Allocator>(text: &mut Vec<u8, A>, bytes: &[u8]) -> Result<(), ScriptFault>
+    ensures text { OnOk result (text.new.items ≡ text.old.items ++ bytes.now) }
+    ensures fault { IfErr result (λ e. e ≡ ScriptFault.OutOfMemory) }
+{
+    text.extend_from_slice(bytes)?;
+    Ok(())
+}
