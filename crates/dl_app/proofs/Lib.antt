@@ -1,6 +1,7 @@
 pub mod Numbers
 pub mod Bytes
 pub mod Spaces
+pub mod Sizes
 pub mod Forms
 pub mod Written
 pub mod Chosen

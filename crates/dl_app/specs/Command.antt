@@ -13,7 +13,7 @@ use Rattle.dl_types.specs.declared.refusal.Refusal.{Refusal}
 use Rattle.dl_types.specs.declared.size.Kind.{Kind}
 use Rattle.dl_types.specs.declared.size.Kind.TheVariants.{Halt, Wrap}
 use Rattle.dl_types.specs.declared.size.Size.{Size}
-use Rattle.dl_types.specs.Mode.{plain_args, is_served}
+use Rattle.dl_types.specs.Mode.{plain_args}
 use Rattle.dl_types.specs.Name.{IsNameText, name_of, base_from}
 use Rattle.dl_types.specs.FileText.{IsFileName, file_text}
 use Rattle.dl_app.specs.declared.command.Command.{Command}
@@ -33,13 +33,9 @@ abbrev pub kind_word : Kind → List ℕ
 kind_word Halt = codes "halt"
 kind_word Wrap = codes "wrap"
 
--- a word names a kind of log, and logs of this kind are served
-abbrev pub GivesKind : List ℕ → Kind → Type 0
-GivesKind word kind = (is_served kind ≡ true) × (word ≡ kind_word kind)
-
--- how a log is to be opened: its kind, and then its options
+-- how a log is to be opened: the word of its kind, and then its options
 abbrev pub GivesArgs : List (List ℕ) → Kind → Settings → Type 0
-GivesArgs words kind settings = (word : List ℕ) × (options : List (List ℕ)) × GivesKind word kind × SetAll options settings × (words ≡ word ∷ options)
+GivesArgs words kind settings = (options : List (List ℕ)) × SetAll options settings × (words ≡ kind_word kind ∷ options)
 
 -- the word for where a chunk or a step is to begin
 abbrev pub start_word : Start → List ℕ
@@ -65,7 +61,7 @@ GivesMove words target head = (base : List ℕ) × (others : List (List ℕ)) ×
 
 -- a size
 abbrev pub GivesSize : List (List ℕ) → Size → Type 0
-GivesSize words size = (word : List ℕ) × WritesSize word (Some size) × (words ≡ word ∷ [])
+GivesSize words size = (word : List ℕ) × WritesSize word size × (words ≡ word ∷ [])
 
 -- the word of a call
 abbrev pub request_word : Request → List ℕ

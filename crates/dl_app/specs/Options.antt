@@ -1,5 +1,5 @@
 -- The options of an open, and the arguments that they make.
-use Rattle.std.specs.Prelude.{◌≡◌, ℕ, List, [], ◌∷◌, ◌++◌, Bool, true, false, Some, codes, ⊤}
+use Rattle.std.specs.Prelude.{◌≡◌, ℕ, List, [], ◌∷◌, ◌++◌, Bool, true, false, codes, ⊤}
 use Rattle.std.specs.List.{fold, list_any}
 use Rattle.dl_types.specs.declared.size.Link.{Link}
 use Rattle.dl_types.specs.declared.size.Link.TheVariants.{Owner, Anonymous}
@@ -39,7 +39,7 @@ link_word Anonymous = codes "anon"
 -- an option writes this setting
 abbrev pub WritesSetting : List ℕ → Setting → Type 0
 WritesSetting option (setting.Base base) = (word : List ℕ) × IsNameText word × (base ≡ base_from word) × (option ≡ codes "base=" ++ word)
-WritesSetting option (setting.Size size) = (word : List ℕ) × WritesSize word (Some size) × (option ≡ codes "size=" ++ word)
+WritesSetting option (setting.Size size) = (word : List ℕ) × WritesSize word size × (option ≡ codes "size=" ++ word)
 WritesSetting option (setting.Mode mode) = option ≡ codes "mode=" ++ mode_word mode
 WritesSetting option (setting.Repair repair) = option ≡ codes "repair=" ++ repair_word repair
 WritesSetting option (setting.Head head) = (is_item head.now ≡ true) × (option ≡ codes "head=" ++ head.now)

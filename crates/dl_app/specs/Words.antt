@@ -1,5 +1,5 @@
 -- The words of a line, and the numbers that they write.
-use Rattle.std.specs.Prelude.{◌≡◌, ◌≢◌, ℕ, ℤ, pos, negsuc, neg_ℤ, List, [], ◌∷◌, Bool, ◌==◌, ◌&&◌, ◌^◌, Option, Some, None, codes, nat_lt, length, if◌then◌else◌}
+use Rattle.std.specs.Prelude.{◌≡◌, ℕ, ℤ, pos, negsuc, neg_ℤ, List, [], ◌∷◌, ◌++◌, Bool, ◌==◌, ◌&&◌, ◌^◌, Option, Some, None, codes, nat_lt, length, if◌then◌else◌}
 use Rattle.std.specs.Borrow.{Bor}
 use Rattle.std.specs.List.{slice_split, list_all}
 use Rattle.std.specs.Option.{option_map}
@@ -48,9 +48,14 @@ abbrev pub step_of : Option ℤ → Option ℤ
 step_of None = None
 step_of (Some n) = if has_32_bits n then Some n else None
 
--- a word writes this size, or none; no word writes that of a wrap log
-abbrev pub WritesSize : List ℕ → Option Size → Type 0
-WritesSize word None = (word ≢ codes "inf") × (number_in word ≡ None)
-WritesSize word (Some Infinity) = word ≡ codes "inf"
-WritesSize word (Some (Limit n)) = (word ≢ codes "inf") × (number_in word ≡ Some n)
-WritesSize word (Some (Wrap bytes files)) = ⊥
+-- the number of files of a wrap log, where it has 32 bits
+abbrev pub files_of : Option ℕ → Option ℕ
+files_of None = None
+files_of (Some n) = if nat_lt n (2 ^ 32) then Some n else None
+
+-- a word writes this size: `inf`, a number, or the bytes of a file, an `x` and the number of files
+abbrev pub WritesSize : List ℕ → Size → Type 0
+WritesSize word Infinity = word ≡ codes "inf"
+WritesSize word (Limit n) = number_in word ≡ Some n
+WritesSize word (Wrap bytes files) =
+    (before : List ℕ) × (after : List ℕ) × (number_in before ≡ Some bytes) × (files_of (number_in after) ≡ Some files) × (word ≡ before ++ (codes "x" ++ after))

@@ -12,7 +12,7 @@ ghost use Rattle.dl_app.specs.declared.command.Start.{Start};
 ghost use Rattle.dl_app.specs.Lines.{is_passed_over};
 ghost use Rattle.dl_app.specs.Items.{is_item};
 ghost use Rattle.dl_app.specs.Words.{words_of, words_left};
-ghost use Rattle.dl_app.specs.Command.{IsForm, GivesRequest, GivesArgs, GivesKind, GivesChunk, GivesStep, GivesHead, GivesMove, GivesSize, request_word, start_word};
+ghost use Rattle.dl_app.specs.Command.{IsForm, GivesRequest, GivesArgs, GivesChunk, GivesStep, GivesHead, GivesMove, GivesSize, kind_word, request_word, start_word};
 
 use crate::items::is_item;
 use crate::options::{Settings, settings_in};
@@ -175,13 +175,15 @@ fn open_of(mut words: Words<'_>) -> Option<Request<'_>>
     Some(Request::Open { kind, settings })
 }
 
-// The kind of log that a word names, if logs of it are served.
+// The kind of log that a word names.
 fn kind_of(word: &[u8]) -> Option<Kind>
-    ensures form { IfSome result (λ kind. GivesKind word.now kind) }
-    ensures none { IfNone result ((kind : Kind) → GivesKind word.now kind → ⊥) }
+    ensures form { IfSome result (λ kind. word.now ≡ kind_word kind) }
+    ensures none { IfNone result ((kind : Kind) → word.now ≡ kind_word kind → ⊥) }
 {
     if word == b"halt".as_slice() {
         Some(Kind::Halt)
+    } else if word == b"wrap".as_slice() {
+        Some(Kind::Wrap)
     } else {
         None
     }

@@ -1,7 +1,9 @@
 // Words of a line, and numbers.
-ghost use Rattle.std.specs.Prelude.{◌≡◌, ◌==◌, ◌<◌, ◌∷◌, IfSome, is_some, length, position};
+ghost use Rattle.std.specs.Prelude.{◌≡◌, ◌==◌, ◌<◌, ◌∷◌, ◌++◌, false, IfSome, IfNone, is_some, length, position, codes};
 ghost use Rattle.std.specs.Iterator.{YieldsFirstBy, item_count};
-ghost use Rattle.dl_app.specs.Words.{words_of, words_in, words_left, number_in, client_of, whole_in, step_of, WritesSize};
+ghost use Rattle.std.specs.List.{list_any};
+ghost use Rattle.dl_types.specs.declared.size.Size.{Size};
+ghost use Rattle.dl_app.specs.Words.{words_of, words_in, words_left, number_in, client_of, whole_in, step_of, files_of, WritesSize};
 
 use dl_types::{ClientId, Size};
 use memchr::memchr;
@@ -103,12 +105,35 @@ pub fn step(word: &[u8]) -> Option<i32>
     }
 }
 
+// The texts before and after the first `x`.
+fn split_size(word: &[u8]) -> Option<(&[u8], &[u8])>
+    ensures parts { IfSome result (λ parts. (word.now ≡ parts.0.now ++ (codes "x" ++ parts.1.now)) × (list_any (λ b. b == 120) parts.0.now ≡ false)) }
+    ensures none { IfNone result (list_any (λ b. b == 120) word.now ≡ false) }
+{
+    let end = memchr(b'x', word)?;
+    Some((&word[..end], &word[end + 1..]))
+}
+
 /// Reads the size of a log.
 pub fn size(word: &[u8]) -> Option<Size>
-    ensures { WritesSize word.now result }
+    ensures form { IfSome result (λ size. WritesSize word.now size) }
+    ensures none { IfNone result ((size : Size) → WritesSize word.now size → ⊥) }
 {
     if word == b"inf".as_slice() {
         return Some(Size::Infinity);
     }
-    Some(Size::Limit(number(word)?))
+    let Some((bytes, files)) = split_size(word) else {
+        return Some(Size::Limit(number(word)?));
+    };
+    Some(Size::Wrap {
+        bytes: number(bytes)?,
+        files: files_in(files)?,
+    })
+}
+
+// Reads the number of files of a wrap log.
+fn files_in(word: &[u8]) -> Option<u32>
+    ensures { result ≡ files_of (number_in word.now) }
+{
+    u32::try_from(number(word)?).ok()
 }
