@@ -29,7 +29,7 @@ work=$(mktemp -d)
 
 # What the programs remove themselves, unless they were stopped.
 clear_files() {
-    rm -f -- "$dir"/bench_[0-9]*.log "$dir"/bench_baseline.log
+    rm -f -- "$dir"/bench_[0-9]*.log "$dir"/bench_baseline.log "$dir"/bench_wrap.* "$dir"/bench_set.*
 }
 
 trap 'clear_files; rm -rf -- "$work"' EXIT
@@ -80,6 +80,10 @@ awk '
         ratio("append 64 a call: a BufWriter", "dlog_append_64_folder", "baseline_append_64_folder")
         ratio("read back: a scan that keeps all items", "dlog_read_folder", "baseline_read_folder")
         ratio("open with repair: a pass over heads and a cut", "dlog_open_repair_folder", "baseline_open_repair_folder")
+        ratio("append one a call, a wrap log: a halt log", "dlog_append_wrap_folder", "dlog_append_folder")
+        ratio("append 64 a call, files of 100 kB: one file", "dlog_append_64_set_folder", "dlog_append_64_folder")
+        ratio("read back, files of 100 kB: one file", "dlog_read_set_folder", "dlog_read_folder")
+        ratio("open, files of 100 kB: one file", "dlog_open_set_folder", "dlog_open_closed_folder")
         ratio("100 logs by turns: one log of dlog", "dlog_round_robin_100_folder", "dlog_append_folder")
         ratio("1,000 logs by turns: one log of dlog", "dlog_round_robin_folder", "dlog_append_folder")
     }

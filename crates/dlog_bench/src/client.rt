@@ -5,7 +5,7 @@ use dl_disk::Disk;
 use dl_hub::Hub;
 use dl_types::{
     Call, ClientId, Event, Fail, Item, Items, Kind, Name, OpenArgs, Place, Refusal, Reply, Run,
-    Turn,
+    Size, Turn,
 };
 use std::time::{Duration, Instant};
 
@@ -50,9 +50,11 @@ impl<D: Disk + Drop> Client<'_, D> {
         Ok(start.elapsed(self.bench.rt)?)
     }
 
-    /// Opens a log. Its file is begun if it is not there, and repaired if that is needed.
-    pub fn open(&mut self, log: Name) -> Result<(), Fault> {
-        self.ask(call(log, Call::Open(OpenArgs::of(Kind::Halt))))?;
+    /// Opens a log of this kind. Its files are begun if they are not there, and repaired if that is needed.
+    pub fn open(&mut self, log: Name, kind: Kind, size: Option<Size>) -> Result<(), Fault> {
+        let mut args = OpenArgs::of(kind);
+        args.size = size;
+        self.ask(call(log, Call::Open(args)))?;
         Ok(())
     }
 
@@ -63,9 +65,9 @@ impl<D: Disk + Drop> Client<'_, D> {
     }
 
     /// Opens a log, which alone is timed, and then reads it.
-    pub fn time_open(&mut self, log: Name) -> Result<Duration, Fault> {
+    pub fn time_open(&mut self, log: Name, kind: Kind) -> Result<Duration, Fault> {
         let start = Instant::now(self.bench.rt)?;
-        self.open(log)?;
+        self.open(log, kind, None)?;
         let spent = start.elapsed(self.bench.rt)?;
         self.read(log)?;
         Ok(spent)

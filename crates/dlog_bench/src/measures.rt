@@ -4,7 +4,7 @@ use crate::client::Client;
 use crate::fault::Fault;
 use dl_disk::{Disk, FolderDisk, MemoryDisk};
 use dl_hub::Hub;
-use dl_types::{Base, FileName, Name, Refusal};
+use dl_types::{Base, FILES_LIMIT, FileName, Kind, Name, Refusal, Size};
 use std::fs::{self, OpenOptions};
 use std::io::{ErrorKind, Write};
 use std::time::Duration;
@@ -16,6 +16,21 @@ const BLOCKS: u32 = 16;
 const MOST_LOGS: u64 = 1_000;
 
 const FEW_LOGS: usize = 100;
+
+// A wrap log that is written one item a call, and one of many small files. Neither loses an item.
+const WRAP: &str = "bench_wrap";
+
+const WRAP_SIZE: Size = Size::Wrap {
+    bytes: 1_000_000,
+    files: FILES_LIMIT,
+};
+
+const SET: &str = "bench_set";
+
+const SET_SIZE: Size = Size::Wrap {
+    bytes: 100_000,
+    files: FILES_LIMIT,
+};
 
 // What a stop leaves in the middle of writing an item: five bytes of the eight before it.
 const TORN: [u8; 5] = [0, 0, 0, 100, 0xd1];
@@ -38,6 +53,10 @@ fn count_logs(bench: Bench<'_>) -> u64 {
 // The name of the log of this number.
 fn name(bench: Bench<'_>, number: u64) -> Result<Name, Fault> {
     let text = format!(in bench.rt.alloc(); "bench_{number}")?;
+    named(text.as_str())
+}
+
+fn named(text: &str) -> Result<Name, Fault> {
     Ok(Name::parse(text.as_bytes()).ok_or(Refusal::NoSuchLog)?)
 }
 
@@ -58,20 +77,41 @@ fn path(bench: Bench<'_>, number: u64) -> Result<String, Fault> {
 // Removes the files of the logs from the folder, and nothing else.
 fn clear(bench: Bench<'_>) -> Result<(), Fault> {
     for number in 0..count_logs(bench) {
-        match fs::remove_file(bench.rt, path(bench, number)?.as_str()) {
-            Err(error) if error.kind() != ErrorKind::NotFound => return Err(error.into()),
-            _ => {}
+        let _there = remove(bench, path(bench, number)?.as_str())?;
+    }
+    clear_set(bench, WRAP)?;
+    clear_set(bench, SET)
+}
+
+// Removes the files of a wrap log from the folder, which are numbered from 1 on.
+fn clear_set(bench: Bench<'_>, log: &str) -> Result<(), Fault> {
+    let index = format!(in bench.rt.alloc(); "{}/{log}.idx", bench.folder)?;
+    let _there = remove(bench, index.as_str())?;
+    for number in 1..=FILES_LIMIT {
+        let file = format!(in bench.rt.alloc(); "{}/{log}.{number}", bench.folder)?;
+        if !remove(bench, file.as_str())? {
+            break;
         }
     }
     Ok(())
+}
+
+// Removes a file, and answers whether it was there.
+fn remove(bench: Bench<'_>, path: &str) -> Result<bool, Fault> {
+    match fs::remove_file(bench.rt, path) {
+        Ok(()) => Ok(true),
+        Err(error) if error.kind() == ErrorKind::NotFound => Ok(false),
+        Err(error) => Err(error.into()),
+    }
 }
 
 // The measures over the folder. The first hub is let go with logs open, as a stop lets it go.
 fn measure_folder(bench: Bench<'_>) -> Result<(), Fault> {
     measure(bench, disk(bench))?;
     tear(bench)?;
-    bench.wait("open_repair", reopen(bench, 0)?)?;
-    bench.wait("open_closed", reopen(bench, 1)?)
+    bench.wait("open_repair", reopen(bench, name(bench, 0)?, Kind::Halt)?)?;
+    bench.wait("open_closed", reopen(bench, name(bench, 1)?, Kind::Halt)?)?;
+    bench.wait("open_set", reopen(bench, named(SET)?, Kind::Wrap)?)
 }
 
 // Writes the front of a frame after the end of the first file, as a stop in the middle of a write leaves it.
@@ -88,10 +128,9 @@ fn disk(bench: Bench<'_>) -> Result<FolderDisk<HostRuntime>, Fault> {
 }
 
 // Opens a log of the folder with a new hub, and then reads it. Answers how long the open took.
-fn reopen(bench: Bench<'_>, number: u64) -> Result<Duration, Fault> {
-    let log = name(bench, number)?;
+fn reopen(bench: Bench<'_>, log: Name, kind: Kind) -> Result<Duration, Fault> {
     let hub = Hub::new(bench.rt.alloc(), disk(bench)?, BLOCKS)?;
-    Client { bench, hub }.time_open(log)
+    Client { bench, hub }.time_open(log, kind)
 }
 
 // The measures over any disk.
@@ -107,9 +146,9 @@ fn measure_calls<D: Disk + Drop>(client: &mut Client<'_, D>) -> Result<(), Fault
     let [one, many, turns @ ..] = logs.as_slice() else {
         return Err(Fault::Refused(Refusal::NoSuchLog));
     };
-    client.open(*one)?;
+    client.open(*one, Kind::Halt, None)?;
     bench.items("append", client.append(&[*one], 1)?)?;
-    client.open(*many)?;
+    client.open(*many, Kind::Halt, None)?;
     bench.items("append_64", client.append(&[*many], 64)?)?;
     let spent = client.read(*one)?;
     bench.items("read", spent)?;
@@ -117,8 +156,9 @@ fn measure_calls<D: Disk + Drop>(client: &mut Client<'_, D>) -> Result<(), Fault
     if !bench.counts {
         bench.memory()?;
     }
+    measure_wraps(client)?;
     for log in turns {
-        client.open(*log)?;
+        client.open(*log, Kind::Halt, None)?;
     }
     let few = &turns[..turns.len().min(FEW_LOGS)];
     bench.items("round_robin_100", client.append(few, 1)?)?;
@@ -127,6 +167,18 @@ fn measure_calls<D: Disk + Drop>(client: &mut Client<'_, D>) -> Result<(), Fault
         show_files(client, logs.as_slice())?;
     }
     client.close(*many)
+}
+
+// Logs to both wrap logs, and reads the one of many files, which is then closed.
+fn measure_wraps<D: Disk + Drop>(client: &mut Client<'_, D>) -> Result<(), Fault> {
+    let bench = client.bench;
+    let (wrap, set) = (named(WRAP)?, named(SET)?);
+    client.open(wrap, Kind::Wrap, Some(WRAP_SIZE))?;
+    bench.items("append_wrap", client.append(&[wrap], 1)?)?;
+    client.open(set, Kind::Wrap, Some(SET_SIZE))?;
+    bench.items("append_64_set", client.append(&[set], 64)?)?;
+    bench.items("read_set", client.read(set)?)?;
+    client.close(set)
 }
 
 // Prints how many files the logs have, each its own, and how large they are.
