@@ -14,6 +14,9 @@ pub(crate) enum Call {
     Open(u32, Link),
     Close(u32),
     Leave(u32),
+    /// A client blocks the log, and calls of others wait or not.
+    Block(u32, bool),
+    Unblock,
 }
 
 /// A table of owners.
@@ -36,6 +39,13 @@ impl<A: Allocator + Copy> Rig<A> {
         }
     }
 
+    fn block(&mut self, client: u32, log: Name, queue: bool) -> Result<(), Fail> {
+        match self.owners.block(ClientId(client), log, queue) {
+            Ok(()) => Ok(()),
+            Err(_) => Err(Fail::OutOfMemory),
+        }
+    }
+
     /// Makes a call: what a close or a leave answers.
     pub(crate) fn call(&mut self, log: Name, call: Call) -> Result<Option<Closed>, Fail> {
         match call {
@@ -43,12 +53,14 @@ impl<A: Allocator + Copy> Rig<A> {
             Call::Use => self.owners.add_user(log)?,
             Call::Open(client, link) => self.owners.join(ClientId(client), log, link, false)?,
             Call::Close(client) => return Ok(Some(self.owners.close(ClientId(client), log))),
+            Call::Block(client, queue) => self.block(client, log, queue)?,
+            Call::Unblock => self.owners.unblock(log),
             Call::Leave(client) => return Ok(Some(self.owners.leave(ClientId(client), log))),
         }
         Ok(None)
     }
 
-    /// Takes all ownerships of a client, and returns the logs that it owned.
+    /// Takes all ownerships and blocks of a client, and returns the logs where it had one.
     pub(crate) fn exit(&mut self, client: u32) -> Result<Vec<Name, A>, AllocError> {
         self.owners.exit(ClientId(client))
     }
@@ -58,6 +70,9 @@ impl<A: Allocator + Copy> Rig<A> {
         match call {
             Call::Use => self.owners.users_of(log) == 1,
             Call::Own(client, _) => self.is_owner(client, log) && self.count_of(client) == 1,
+            Call::Block(client, queue) => {
+                self.blocker_of(log) == Some((client, queue)) && self.count_of(client) == 1
+            }
             _ => false,
         }
     }
@@ -67,7 +82,15 @@ impl<A: Allocator + Copy> Rig<A> {
         self.owners.is_owner(ClientId(client), log)
     }
 
-    /// How many logs a client owns.
+    /// The client that blocks a log, and whether calls of others wait.
+    pub(crate) fn blocker_of(&self, log: Name) -> Option<(u32, bool)> {
+        match self.owners.blocker_of(log) {
+            Some(blocker) => Some((blocker.client.0, blocker.queue)),
+            None => None,
+        }
+    }
+
+    /// How many logs a client owns or blocks.
     pub(crate) fn count_of(&self, client: u32) -> usize {
         self.owners.logs_of(ClientId(client)).len()
     }
