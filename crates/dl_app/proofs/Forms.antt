@@ -8,10 +8,10 @@ use Rattle.dl_types.specs.declared.name.Base.{Base}
 use Rattle.dl_types.specs.declared.size.Kind.{Kind}
 use Rattle.dl_types.specs.declared.size.Size.{Size}
 use Rattle.dl_app.specs.declared.command.Request.{Request}
-use Rattle.dl_app.specs.declared.command.Request.TheVariants.{Open, Log, Chunk, ChunkStep, Truncate, Reopen, NextFile, ChangeSize, Sync, Info, Close}
+use Rattle.dl_app.specs.declared.command.Request.TheVariants.{Open, Log, Chunk, ChunkStep, Truncate, Reopen, NextFile, ChangeSize, Sync, Block, Unblock, Info, Close}
 use Rattle.dl_app.specs.declared.command.Start.{Start}
 use Rattle.dl_app.specs.declared.options.Settings.{Settings}
-use Rattle.dl_app.specs.Command.{GivesRequest, GivesArgs, GivesChunk, GivesStep, GivesHead, GivesMove, GivesSize, request_word}
+use Rattle.dl_app.specs.Command.{GivesRequest, GivesArgs, GivesChunk, GivesStep, GivesHead, GivesMove, GivesSize, GivesBlock, request_word}
 
 pub none_holds : {A : Type 0} (o : Option A) (P : Type 0) → P → IfNone o P
 none_holds None P p = p
@@ -36,6 +36,8 @@ no_open verb words is none (Reopen target head) same given = apart verb (codes "
 no_open verb words is none NextFile same given = apart verb (codes "open") (codes "nextfile") 0 is same refl
 no_open verb words is none (ChangeSize size) same given = apart verb (codes "open") (codes "size") 0 is same refl
 no_open verb words is none Sync same given = apart verb (codes "open") (codes "sync") 0 is same refl
+no_open verb words is none (Block queue) same given = apart verb (codes "open") (codes "block") 0 is same refl
+no_open verb words is none Unblock same given = apart verb (codes "open") (codes "unblock") 0 is same refl
 no_open verb words is none Info same given = apart verb (codes "open") (codes "info") 0 is same refl
 no_open verb words is none Close same given = apart verb (codes "open") (codes "close") 0 is same refl
 
@@ -50,6 +52,8 @@ no_chunk verb words is none (Reopen target head) same given = apart verb (codes 
 no_chunk verb words is none NextFile same given = apart verb (codes "chunk") (codes "nextfile") 0 is same refl
 no_chunk verb words is none (ChangeSize size) same given = apart verb (codes "chunk") (codes "size") 0 is same refl
 no_chunk verb words is none Sync same given = apart verb (codes "chunk") (codes "sync") 0 is same refl
+no_chunk verb words is none (Block queue) same given = apart verb (codes "chunk") (codes "block") 0 is same refl
+no_chunk verb words is none Unblock same given = apart verb (codes "chunk") (codes "unblock") 0 is same refl
 no_chunk verb words is none Info same given = apart verb (codes "chunk") (codes "info") 0 is same refl
 no_chunk verb words is none Close same given = apart verb (codes "chunk") (codes "close") 1 is same refl
 
@@ -64,6 +68,8 @@ no_step verb words is none (Reopen target head) same given = apart verb (codes "
 no_step verb words is none NextFile same given = apart verb (codes "step") (codes "nextfile") 0 is same refl
 no_step verb words is none (ChangeSize size) same given = apart verb (codes "step") (codes "size") 1 is same refl
 no_step verb words is none Sync same given = apart verb (codes "step") (codes "sync") 1 is same refl
+no_step verb words is none (Block queue) same given = apart verb (codes "step") (codes "block") 0 is same refl
+no_step verb words is none Unblock same given = apart verb (codes "step") (codes "unblock") 0 is same refl
 no_step verb words is none Info same given = apart verb (codes "step") (codes "info") 0 is same refl
 no_step verb words is none Close same given = apart verb (codes "step") (codes "close") 0 is same refl
 
@@ -78,6 +84,8 @@ no_truncate verb words is none (Reopen target head) same given = apart verb (cod
 no_truncate verb words is none NextFile same given = apart verb (codes "truncate") (codes "nextfile") 0 is same refl
 no_truncate verb words is none (ChangeSize size) same given = apart verb (codes "truncate") (codes "size") 0 is same refl
 no_truncate verb words is none Sync same given = apart verb (codes "truncate") (codes "sync") 0 is same refl
+no_truncate verb words is none (Block queue) same given = apart verb (codes "truncate") (codes "block") 0 is same refl
+no_truncate verb words is none Unblock same given = apart verb (codes "truncate") (codes "unblock") 0 is same refl
 no_truncate verb words is none Info same given = apart verb (codes "truncate") (codes "info") 0 is same refl
 no_truncate verb words is none Close same given = apart verb (codes "truncate") (codes "close") 0 is same refl
 
@@ -92,6 +100,8 @@ no_reopen verb words is none (Reopen target head) same given = none target head 
 no_reopen verb words is none NextFile same given = apart verb (codes "reopen") (codes "nextfile") 0 is same refl
 no_reopen verb words is none (ChangeSize size) same given = apart verb (codes "reopen") (codes "size") 0 is same refl
 no_reopen verb words is none Sync same given = apart verb (codes "reopen") (codes "sync") 0 is same refl
+no_reopen verb words is none (Block queue) same given = apart verb (codes "reopen") (codes "block") 0 is same refl
+no_reopen verb words is none Unblock same given = apart verb (codes "reopen") (codes "unblock") 0 is same refl
 no_reopen verb words is none Info same given = apart verb (codes "reopen") (codes "info") 0 is same refl
 no_reopen verb words is none Close same given = apart verb (codes "reopen") (codes "close") 0 is same refl
 
@@ -106,8 +116,26 @@ no_size verb words is none (Reopen target head) same given = apart verb (codes "
 no_size verb words is none NextFile same given = apart verb (codes "size") (codes "nextfile") 0 is same refl
 no_size verb words is none (ChangeSize size) same given = none size given
 no_size verb words is none Sync same given = apart verb (codes "size") (codes "sync") 1 is same refl
+no_size verb words is none (Block queue) same given = apart verb (codes "size") (codes "block") 0 is same refl
+no_size verb words is none Unblock same given = apart verb (codes "size") (codes "unblock") 0 is same refl
 no_size verb words is none Info same given = apart verb (codes "size") (codes "info") 0 is same refl
 no_size verb words is none Close same given = apart verb (codes "size") (codes "close") 0 is same refl
+
+-- a block whose words give none
+pub no_block : (verb : List ℕ) (words : List (List ℕ)) → verb ≡ codes "block" → ((queue : Bool) → GivesBlock words queue → ⊥) → (request : Request) → verb ≡ request_word request → GivesRequest words request → ⊥
+no_block verb words is none (Open kind settings) same given = apart verb (codes "block") (codes "open") 0 is same refl
+no_block verb words is none (Log items) same given = apart verb (codes "block") (codes "log") 0 is same refl
+no_block verb words is none (Chunk from most) same given = apart verb (codes "block") (codes "chunk") 0 is same refl
+no_block verb words is none (ChunkStep from by) same given = apart verb (codes "block") (codes "step") 0 is same refl
+no_block verb words is none (Truncate head) same given = apart verb (codes "block") (codes "truncate") 0 is same refl
+no_block verb words is none (Reopen target head) same given = apart verb (codes "block") (codes "reopen") 0 is same refl
+no_block verb words is none NextFile same given = apart verb (codes "block") (codes "nextfile") 0 is same refl
+no_block verb words is none (ChangeSize size) same given = apart verb (codes "block") (codes "size") 0 is same refl
+no_block verb words is none Sync same given = apart verb (codes "block") (codes "sync") 0 is same refl
+no_block verb words is none (Block queue) same given = none queue given
+no_block verb words is none Unblock same given = apart verb (codes "block") (codes "unblock") 0 is same refl
+no_block verb words is none Info same given = apart verb (codes "block") (codes "info") 0 is same refl
+no_block verb words is none Close same given = apart verb (codes "block") (codes "close") 0 is same refl
 
 -- what is given where no word is left
 pub where_ended : {A : Type 0} (P : A → Type 0) (x : A) (rest : List (List ℕ)) → (rest ≡ [] → P x) → (b : Bool) → b ≡ (length rest == 0) → (r : Option A) → r ≡ then_some b x → IfSome r P

@@ -45,6 +45,7 @@ abbrev pub IsReplyText : {Z : Type 0} → Reply Z → List ℕ → Type 0
 IsReplyText reply.Opened text = text ≡ codes "opened"
 IsReplyText (reply.Repaired recovered bad) text = text ≡ repaired_text recovered bad
 IsReplyText reply.Done text = text ≡ codes "done"
+IsReplyText reply.Suspended text = text ≡ codes "suspended"
 IsReplyText (reply.Items next items bad) text = text ≡ items_text bad items
 IsReplyText reply.Eof text = text ≡ codes "eof"
 IsReplyText (reply.At place) text = text ≡ place_text place

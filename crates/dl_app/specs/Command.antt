@@ -1,5 +1,5 @@
 -- The forms of a line, and the call that its words ask for.
-use Rattle.std.specs.Prelude.{◌≡◌, ℕ, ℤ, true, List, [], ◌∷◌, map, Option, Some, None, codes}
+use Rattle.std.specs.Prelude.{◌≡◌, ℕ, ℤ, Bool, true, false, List, [], ◌∷◌, map, Option, Some, None, codes}
 use Rattle.std.specs.Borrow.{Bor}
 use Rattle.std.specs.List.{list_all}
 use Rattle.dl_types.specs.declared.call.Call.{Call}
@@ -63,6 +63,15 @@ GivesMove words target head = (base : List ℕ) × (others : List (List ℕ)) ×
 abbrev pub GivesSize : List (List ℕ) → Size → Type 0
 GivesSize words size = (word : List ℕ) × WritesSize word size × (words ≡ word ∷ [])
 
+-- the word for what becomes of the calls that a block stops
+abbrev pub block_word : Bool → List ℕ
+block_word true = codes "queue"
+block_word false = codes "refuse"
+
+-- what becomes of the calls that a block stops
+abbrev pub GivesBlock : List (List ℕ) → Bool → Type 0
+GivesBlock words queue = words ≡ block_word queue ∷ []
+
 -- the word of a call
 abbrev pub request_word : Request → List ℕ
 request_word (request.Open kind settings) = codes "open"
@@ -74,6 +83,8 @@ request_word (request.Reopen target head) = codes "reopen"
 request_word request.NextFile = codes "nextfile"
 request_word (request.ChangeSize size) = codes "size"
 request_word request.Sync = codes "sync"
+request_word (request.Block queue) = codes "block"
+request_word request.Unblock = codes "unblock"
 request_word request.Info = codes "info"
 request_word request.Close = codes "close"
 
@@ -88,6 +99,8 @@ GivesRequest words (request.Reopen target head) = GivesMove words target head
 GivesRequest words request.NextFile = words ≡ []
 GivesRequest words (request.ChangeSize size) = GivesSize words size
 GivesRequest words request.Sync = words ≡ []
+GivesRequest words (request.Block queue) = GivesBlock words queue
+GivesRequest words request.Unblock = words ≡ []
 GivesRequest words request.Info = words ≡ []
 GivesRequest words request.Close = words ≡ []
 
@@ -120,6 +133,8 @@ call_in (request.Reopen target head) next = call.Reopen target (head_bytes head)
 call_in request.NextFile next = call.NextFile
 call_in (request.ChangeSize size) next = call.ChangeSize size
 call_in request.Sync next = call.Sync
+call_in (request.Block queue) next = call.Block queue
+call_in request.Unblock next = call.Unblock
 call_in request.Info next = call.Info
 call_in request.Close next = call.Close
 
@@ -134,5 +149,7 @@ refusal_in (request.Reopen target head) = head_refusal head
 refusal_in request.NextFile = None
 refusal_in (request.ChangeSize size) = None
 refusal_in request.Sync = None
+refusal_in (request.Block queue) = None
+refusal_in request.Unblock = None
 refusal_in request.Info = None
 refusal_in request.Close = None

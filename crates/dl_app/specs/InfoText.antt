@@ -45,9 +45,15 @@ abbrev pub owners_text : List Owner → List ℕ
 owners_text [] = codes "none"
 owners_text (owner ∷ owners) = owner_text owner ++ flat_map next_owner_text owners
 
--- the number of anonymous users
-abbrev pub users_text : ℕ → List ℕ
-users_text users = codes " users=" ++ decimal users ++ codes " ok"
+-- whether a block has calls suspended or refused, or that there is none
+abbrev pub status_word : Option Bool → List ℕ
+status_word None = codes "ok"
+status_word (Some true) = codes "blocked-queue"
+status_word (Some false) = codes "blocked-refuse"
+
+-- the number of anonymous users, and the block
+abbrev pub users_text : ℕ → Option Bool → List ℕ
+users_text users blocked = codes " users=" ++ decimal users ++ codes " " ++ status_word blocked
 
 -- how often the log went to its next file: since it was opened, and since it was last asked
 abbrev pub overflows_text : Overflows → List ℕ
@@ -80,4 +86,4 @@ more_text (Some writing) = writing_text writing
 -- what a log tells about itself
 abbrev pub info_text : {Z : Type 0} → Info Z → List ℕ
 info_text info =
-    names_text info.log info.base ++ form_text info.kind info.size info.mode ++ codes " owners=" ++ owners_text info.owners ++ users_text info.users ++ more_text info.writing
+    names_text info.log info.base ++ form_text info.kind info.size info.mode ++ codes " owners=" ++ owners_text info.owners ++ users_text info.users info.blocked ++ more_text info.writing

@@ -33,6 +33,7 @@ abbrev pub places_after : {Z : Type 0} → Reply Z → ClientId → Name → (Cl
 places_after reply.Opened client log places = places
 places_after (reply.Repaired recovered bad) client log places = places
 places_after reply.Done client log places = places
+places_after reply.Suspended client log places = places
 places_after (reply.Items next items bad) client log places = given_place next client log places
 places_after reply.Eof client log places = places
 places_after (reply.At next) client log places = given_place next client log places

@@ -42,6 +42,8 @@ pub fn call_of<A: Allocator + Copy>(
         Request::NextFile => Call::NextFile,
         Request::ChangeSize(size) => Call::ChangeSize(size),
         Request::Sync => Call::Sync,
+        Request::Block { queue } => Call::Block { queue },
+        Request::Unblock => Call::Unblock,
         Request::Info => Call::Info,
         Request::Close => Call::Close,
     })

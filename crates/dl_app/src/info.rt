@@ -2,7 +2,7 @@
 ghost use Rattle.std.specs.Prelude.{◌≡◌, ◌++◌, codes, IfErr, OnOk};
 ghost use Rattle.std.specs.Fmt.{decimal};
 ghost use Rattle.std.specs.List.{flat_map};
-ghost use Rattle.dl_app.specs.InfoText.{names_text, form_text, info_text, next_owner_text, owner_text, owners_text, users_text, head_text, extent_text, files_text, overflows_text, writing_text, more_text, yes_or_no};
+ghost use Rattle.dl_app.specs.InfoText.{names_text, form_text, info_text, next_owner_text, owner_text, owners_text, users_text, status_word, head_text, extent_text, files_text, overflows_text, writing_text, more_text, yes_or_no};
 ghost use Rattle.dl_app.specs.Command.{kind_word};
 ghost use Rattle.dl_app.specs.Options.{mode_word};
 
@@ -20,7 +20,7 @@ pub fn push_info<A: Allocator>(text: &mut Vec<u8, A>, info: &Info<A>) -> Result<
     push_names(text, info.log, info.base)?;
     push_form(text, info.kind, info.size, info.mode)?;
     push_owners(text, info.owners.as_slice())?;
-    push_users(text, info.users)?;
+    push_users(text, info.users, info.blocked)?;
     push_more(text, &info.writing)
 }
 
@@ -111,12 +111,28 @@ fn push_owner<A: Allocator>(text: &mut Vec<u8, A>, owner: Owner) -> Result<(), S
     write!(text, "{client}:{notify}").map_err(|_| ScriptFault::OutOfMemory)
 }
 
-// Adds the number of anonymous users.
-fn push_users<A: Allocator>(text: &mut Vec<u8, A>, users: u32) -> Result<(), ScriptFault>
-    ensures text { OnOk result (text.new.items ≡ text.old.items ++ users_text users) }
+// Adds the number of anonymous users, and the block.
+fn push_users<A: Allocator>(
+    text: &mut Vec<u8, A>,
+    users: u32,
+    blocked: Option<bool>,
+) -> Result<(), ScriptFault>
+    ensures text { OnOk result (text.new.items ≡ text.old.items ++ users_text users blocked) }
     ensures fault { IfErr result (λ e. e ≡ ScriptFault.OutOfMemory) }
 {
-    write!(text, " users={users} ok").map_err(|_| ScriptFault::OutOfMemory)
+    let status = status_word(blocked);
+    write!(text, " users={users} {status}").map_err(|_| ScriptFault::OutOfMemory)
+}
+
+// The word of a block.
+fn status_word(blocked: Option<bool>) -> &'static str
+    ensures { result.now ≡ status_word blocked }
+{
+    match blocked {
+        None => "ok",
+        Some(true) => "blocked-queue",
+        Some(false) => "blocked-refuse",
+    }
 }
 
 // Adds what is told in read-write mode alone, if it is.

@@ -12,6 +12,7 @@ mod notice;
 mod options;
 mod places;
 mod script;
+mod verbs;
 mod words;
 
 pub use fault::ScriptFault;

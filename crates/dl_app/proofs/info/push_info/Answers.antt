@@ -15,7 +15,7 @@ returns-clause-text g c =
     let form = form_text info.kind info.size info.mode in
     let sign = codes " owners=" in
     let owners = owners_text info.owners in
-    let users = users_text info.users in
+    let users = users_text info.users info.blocked in
     let listed_is : listed ≡ formed ++ sign ++ owners = search (rules, c.in_ok-push_owners.ensures.text, c.as_slice.ensures) in
     let second = grows old named formed names form c.in_ok-push_names.ensures.text c.in_ok-push_form.ensures.text in
     let third = grows old formed (formed ++ sign) (names ++ form) sign second refl in

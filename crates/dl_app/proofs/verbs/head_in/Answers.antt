@@ -2,7 +2,7 @@ use Rattle.std.proofs.Common.{rules, ◌≡◌, true}
 use Rattle.dl_app.specs.Items.{is_item}
 use Rattle.dl_app.specs.Words.{words_left}
 use Rattle.dl_app.proofs.Forms.{only_word}
-use Rattle.dl_app.proofs.command.head_in.Goals as goal
+use Rattle.dl_app.proofs.verbs.head_in.Goals as goal
 
 pub returns-clause-form : goal.returns-clause-form
 returns-clause-form c =
