@@ -1,0 +1,33 @@
+-- Which logs a folder has.
+use Rattle.std.specs.Prelude.{◌≡◌, ◌↔◌, Option, Some, None, IsSome, IfOk, Contains, List}
+use Rattle.std.specs.FinMap as map
+use Rattle.dl_types.specs.declared.name.Base.{Base}
+use Rattle.dl_types.specs.declared.file.FileName.{FileName}
+use Rattle.dl_types.specs.declared.file.Part.{Part}
+use Rattle.dl_types.specs.declared.file.Part.TheVariants as part
+use Rattle.dl_types.specs.declared.size.Kind.{Kind}
+use Rattle.dl_types.specs.declared.size.Kind.TheVariants.{Halt, Wrap}
+use Rattle.dl_types.specs.FileName.{Content}
+use Rattle.dl_tool.specs.declared.line.LogFiles.{LogFiles}
+
+-- the part of the file by which a log of this kind is there
+abbrev pub main_part : Kind → Part
+main_part Halt = part.Halt
+main_part Wrap = part.Index
+
+-- the file by which a log is there
+abbrev pub main_file : LogFiles → FileName
+main_file log = record { base = log.base; part = main_part log.kind }
+
+-- the log that is there by a file of this part, if there is one
+abbrev pub log_with : Base → Part → Option LogFiles
+log_with base part.Halt = Some (record { base = base; kind = Halt })
+log_with base part.Index = Some (record { base = base; kind = Wrap })
+log_with base (part.Numbered n) = None
+
+abbrev pub log_of : FileName → Option LogFiles
+log_of f = log_with f.base f.part
+
+-- these are the logs whose file is there
+abbrev pub AreLogs : Content → List LogFiles → Type 0
+AreLogs content logs = (log : LogFiles) → Contains logs log ↔ IsSome (map.get content (main_file log))

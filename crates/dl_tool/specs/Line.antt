@@ -1,0 +1,44 @@
+-- What is found of a log, as a line.
+use Rattle.std.specs.Prelude.{◌≡◌, ℕ, List, [], ◌∷◌, ◌++◌, codes}
+use Rattle.std.specs.Fmt.{decimal}
+use Rattle.dl_types.specs.declared.size.Kind.{Kind}
+use Rattle.dl_types.specs.declared.size.Kind.TheVariants.{Halt, Wrap}
+use Rattle.dl_types.specs.Name.{base_text}
+use Rattle.dl_types.specs.Printed.{characters_of, printed_file}
+use Rattle.dl_tool.specs.declared.finding.Amount.{Amount}
+use Rattle.dl_tool.specs.declared.finding.Finding.{Finding}
+use Rattle.dl_tool.specs.declared.finding.Finding.TheVariants.{Absent, Clean, Torn, Refused, Unread}
+use Rattle.dl_tool.specs.declared.line.LogFiles.{LogFiles}
+
+-- the word of a kind
+abbrev pub kind_word : Kind → List ℕ
+kind_word Halt = codes "halt"
+kind_word Wrap = codes "wrap"
+
+-- a log, and a space
+abbrev pub log_text : LogFiles → List ℕ
+log_text log = characters_of (base_text log.base) ++ codes " " ++ kind_word log.kind ++ codes " "
+
+-- how much a log has
+abbrev pub amount_text : Amount → List ℕ
+amount_text a = codes "files=" ++ decimal a.files ++ codes " items=" ++ decimal a.items ++ codes " bytes=" ++ decimal a.bytes ++ codes " bad=" ++ decimal a.bad
+
+-- how many items a repair would keep
+abbrev pub kept_text : ℕ → List ℕ
+kept_text kept = codes " needs repair: " ++ decimal kept ++ codes " items kept, "
+
+-- how many bytes it would cut
+abbrev pub cut_text : ℕ → List ℕ
+cut_text cut = decimal cut ++ codes " bytes bad"
+
+-- a text says what was found; which text says a refusal is left open here
+abbrev pub IsFindingText : Finding → List ℕ → Type 0
+IsFindingText Absent text = text ≡ codes "no such log"
+IsFindingText (Clean a) text = text ≡ amount_text a ++ codes " clean"
+IsFindingText (Torn a kept cut) text = text ≡ amount_text a ++ kept_text kept ++ cut_text cut
+IsFindingText (Refused refusal) text = (why : List ℕ) × (text ≡ codes "refused: " ++ why)
+IsFindingText (Unread file) text = text ≡ codes "cannot read " ++ printed_file file
+
+-- the line of what was found of a log
+abbrev pub IsLine : LogFiles → Finding → List ℕ → Type 0
+IsLine log found line = (said : List ℕ) × IsFindingText found said × (line ≡ log_text log ++ said ++ 10 ∷ [])

@@ -1,0 +1,41 @@
+// What a check finds of a log.
+use dl_types::{FileName, Refusal};
+use thiserror::Error;
+
+/// How much a log has. Each number stops at the greatest `u64`.
+#[derive(Clone, Copy)]
+pub struct Amount {
+    /// Its files of items.
+    pub files: u64,
+    /// The items of all files.
+    pub items: u64,
+    /// The bytes of all files. An index is not counted.
+    pub bytes: u64,
+    /// The bytes in all files that are no item's.
+    pub bad: u64,
+}
+
+/// What stands of a log that is not open, and what an open to read and write would answer.
+#[derive(Clone, Copy)]
+pub enum Finding {
+    /// There is no such log.
+    Absent,
+    /// The log is opened as it is.
+    Clean(Amount),
+    /// The log is repaired: `kept` items of its last file are kept, and the `cut` bytes after them are cut.
+    Torn { amount: Amount, kept: u64, cut: u64 },
+    /// The open is refused.
+    Refused(Refusal),
+    /// The device failed at this file, so it is not known.
+    Unread(FileName),
+}
+
+/// Why a log was not checked.
+#[derive(Clone, Copy, Debug, PartialEq, Eq, Error)]
+pub enum CheckFault {
+    /// The device failed at this file.
+    #[error("cannot read {0}")]
+    Device(FileName),
+    #[error("out of memory")]
+    OutOfMemory,
+}

@@ -1,0 +1,58 @@
+// The logs of a folder.
+ghost use Rattle.std.specs.Prelude.{◌≡◌, IsTrue, IfOk};
+ghost use Rattle.std.specs.List.{filter_map};
+ghost use Rattle.dl_disk.specs.Disk.{IsUncounted};
+ghost use Rattle.dl_tool.specs.Folder.{log_of, AreLogs};
+
+use crate::line::LogFiles;
+use dl_disk::{Disk, ListFault};
+use dl_types::{FileName, Kind, Part};
+use std::alloc::{AllocError, Allocator};
+
+/// The logs of a folder in order of base. A halt log is there if its file is, and a wrap log if its index is.
+pub fn find_logs<D: Disk, A: Allocator + Copy>(
+    alloc: A,
+    disk: &mut D,
+) -> Result<Vec<LogFiles, A>, ListFault>
+    ensures device { IsUncounted (D.state disk.old) (D.state disk.new) }
+    ensures content { IsTrue (D.state disk.new).honest → (D.state disk.new).content ≡ (D.state disk.old).content }
+    ensures logs { IsTrue (D.state disk.new).honest → IfOk result (λ logs. AreLogs (D.state disk.old).content logs.items) }
+{
+    let mut names = disk.list(alloc)?;
+    names.sort_unstable();
+    match logs_of(alloc, &names) {
+        Err(_) => Err(ListFault::OutOfMemory),
+        Ok(logs) => Ok(logs),
+    }
+}
+
+// The logs that are there by these files.
+fn logs_of<A: Allocator>(alloc: A, names: &[FileName]) -> Result<Vec<LogFiles, A>, AllocError>
+    ensures { IfOk result (λ logs. logs.items ≡ filter_map log_of names.now) }
+{
+    let mut logs = Vec::new(alloc);
+    for name in names {
+        if let Some(log) = log_of(*name) {
+            logs.push(log)?;
+        }
+    }
+    Ok(logs)
+}
+
+// The log that is there by this file.
+fn log_of(file: FileName) -> Option<LogFiles>
+    ensures { result ≡ log_of file }
+{
+    let base = file.base;
+    match file.part {
+        Part::Halt => Some(LogFiles {
+            base,
+            kind: Kind::Halt,
+        }),
+        Part::Index => Some(LogFiles {
+            base,
+            kind: Kind::Wrap,
+        }),
+        Part::Numbered(_) => None,
+    }
+}

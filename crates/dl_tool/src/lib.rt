@@ -1,0 +1,18 @@
+//! What a folder of logs has, read without a change of it.
+#![tactic(auto)]
+
+mod check;
+mod finding;
+mod folder;
+mod halt;
+mod length;
+mod line;
+mod mark;
+mod report;
+mod wrap;
+
+pub use check::check_log;
+pub use finding::{Amount, Finding};
+pub use folder::find_logs;
+pub use line::LogFiles;
+pub use report::{Health, ReportFault, check_logs};
