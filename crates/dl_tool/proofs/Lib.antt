@@ -4,3 +4,4 @@ pub mod Wraps
 pub mod WrapSets
 pub mod Logs
 pub mod Tellings
+pub mod Opened

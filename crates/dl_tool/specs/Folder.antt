@@ -1,5 +1,5 @@
 -- Which logs a folder has.
-use Rattle.std.specs.Prelude.{◌≡◌, ◌↔◌, Option, Some, None, IsSome, IfOk, Contains, List}
+use Rattle.std.specs.Prelude.{◌≡◌, ◌↔◌, Option, Some, None, IsSome, Contains, List, [], ◌∷◌, filter}
 use Rattle.std.specs.FinMap as map
 use Rattle.dl_types.specs.declared.name.Base.{Base}
 use Rattle.dl_types.specs.declared.file.FileName.{FileName}
@@ -8,6 +8,7 @@ use Rattle.dl_types.specs.declared.file.Part.TheVariants as part
 use Rattle.dl_types.specs.declared.size.Kind.{Kind}
 use Rattle.dl_types.specs.declared.size.Kind.TheVariants.{Halt, Wrap}
 use Rattle.dl_types.specs.FileName.{Content}
+use Rattle.dl_types.specs.Name.{same_base}
 use Rattle.dl_tool.specs.declared.line.LogFiles.{LogFiles}
 
 -- the part of the file by which a log of this kind is there
@@ -31,3 +32,11 @@ log_of f = log_with f.base f.part
 -- these are the logs whose file is there
 abbrev pub AreLogs : Content → List LogFiles → Type 0
 AreLogs content logs = (log : LogFiles) → Contains logs log ↔ IsSome (map.get content (main_file log))
+
+-- the logs of these that have this base, or else a halt log of it
+abbrev pub or_halt : Base → List LogFiles → List LogFiles
+or_halt base [] = record { base = base; kind = Halt } ∷ []
+or_halt base (log ∷ logs) = log ∷ logs
+
+abbrev pub named_in : Base → List LogFiles → List LogFiles
+named_in base logs = or_halt base (filter (λ log. same_base log.base base) logs)

@@ -2,11 +2,11 @@
 ghost use Rattle.std.specs.Prelude.{◌≡◌, IsTrue, IfOk};
 ghost use Rattle.std.specs.List.{filter_map};
 ghost use Rattle.dl_disk.specs.Disk.{IsUncounted};
-ghost use Rattle.dl_tool.specs.Folder.{log_of, AreLogs};
+ghost use Rattle.dl_tool.specs.Folder.{log_of, named_in, AreLogs};
 
 use crate::line::LogFiles;
 use dl_disk::{Disk, ListFault};
-use dl_types::{FileName, Kind, Part};
+use dl_types::{Base, FileName, Kind, Part};
 use std::alloc::{AllocError, Allocator};
 
 /// The logs of a folder in order of base. A halt log is there if its file is, and a wrap log if its index is.
@@ -24,6 +24,29 @@ pub fn find_logs<D: Disk, A: Allocator + Copy>(
         Err(_) => Err(ListFault::OutOfMemory),
         Ok(logs) => Ok(logs),
     }
+}
+
+/// The logs of these that have this base, or, if there is none, the halt log of it, which a check then finds absent.
+pub fn logs_named<A: Allocator + Copy>(
+    alloc: A,
+    logs: &[LogFiles],
+    base: Base,
+) -> Result<Vec<LogFiles, A>, AllocError>
+    ensures { IfOk result (λ own. own.items ≡ named_in base logs.now) }
+{
+    let mut own = Vec::new(alloc);
+    for log in logs {
+        if log.base == base {
+            own.push(*log)?;
+        }
+    }
+    if own.is_empty() {
+        own.push(LogFiles {
+            base,
+            kind: Kind::Halt,
+        })?;
+    }
+    Ok(own)
 }
 
 // The logs that are there by these files.
