@@ -1,9 +1,11 @@
-//! The program: a script of calls on standard input, and its answers on standard output.
+//! The program: a script of calls on standard input, and its answers on standard output; and a check of a folder.
 #![tactic(auto)]
 
 ghost use Rattle.std.specs.Prelude.{◌≡◌};
 ghost use Rattle.std.specs.Process.{exit_status};
 ghost use Rattle.dlog.specs.Status.{status_of, status_after};
+
+mod check;
 
 use anyhow::Result;
 use clap::error::ErrorKind;
@@ -25,6 +27,11 @@ const FAILED: u8 = 1;
 
 const MISUSED: u8 = 2;
 
+// The status where a log that was checked is not clean, and where it could not be read.
+const UNCLEAN: u8 = 1;
+
+const UNREAD: u8 = 3;
+
 fn main(rt: HostRuntime) -> Result<ExitCode> {
     let args = match env::args(&rt) {
         Ok(args) => args,
@@ -36,6 +43,9 @@ fn main(rt: HostRuntime) -> Result<ExitCode> {
         Ok(matches) => matches,
         Err(error) => return Ok(show(&rt, &error)),
     };
+    if let Some(options) = matches.subcommand_matches("check") {
+        return Ok(check::run(&rt, options));
+    }
     let Some(options) = matches.subcommand_matches("run") else {
         return Ok(ExitCode::from(MISUSED));
     };
@@ -75,7 +85,8 @@ fn command<'a>(alloc: Global) -> Result<Command<'a>, AllocError> {
         .version("0.1.0")
         .about("A server of logs that keep their items in order and give them back in chunks")
         .subcommand_required(true)
-        .subcommand(run)
+        .subcommand(run)?
+        .subcommand(check::command(alloc)?)
 }
 
 // Runs the script on standard input over the disk that the options name.
