@@ -8,7 +8,7 @@ use Rattle.dl_types.specs.declared.name.Base.{Base}
 use Rattle.dl_types.specs.declared.size.Kind.{Kind}
 use Rattle.dl_types.specs.declared.size.Size.{Size}
 use Rattle.dl_app.specs.declared.command.Request.{Request}
-use Rattle.dl_app.specs.declared.command.Request.TheVariants.{Open, Log, Chunk, ChunkStep, Truncate, Reopen, NextFile, ChangeSize, Sync, Block, Unblock, Info, Close}
+use Rattle.dl_app.specs.declared.command.Request.TheVariants.{Open, Log, Alog, Chunk, ChunkStep, Truncate, Reopen, NextFile, ChangeSize, Sync, Block, Unblock, Info, Close}
 use Rattle.dl_app.specs.declared.command.Start.{Start}
 use Rattle.dl_app.specs.declared.options.Settings.{Settings}
 use Rattle.dl_app.specs.Command.{GivesRequest, GivesArgs, GivesChunk, GivesStep, GivesHead, GivesMove, GivesSize, GivesBlock, request_word}
@@ -29,6 +29,7 @@ apart verb v w k is same differs = eqb-false _ _ differs (ap (λ (word : List �
 pub no_open : (verb : List ℕ) (words : List (List ℕ)) → verb ≡ codes "open" → ((kind : Kind) (settings : Settings) → GivesArgs words kind settings → ⊥) → (request : Request) → verb ≡ request_word request → GivesRequest words request → ⊥
 no_open verb words is none (Open kind settings) same given = none kind settings given
 no_open verb words is none (Log items) same given = apart verb (codes "open") (codes "log") 0 is same refl
+no_open verb words is none (Alog items) same given = apart verb (codes "open") (codes "alog") 0 is same refl
 no_open verb words is none (Chunk from most) same given = apart verb (codes "open") (codes "chunk") 0 is same refl
 no_open verb words is none (ChunkStep from by) same given = apart verb (codes "open") (codes "step") 0 is same refl
 no_open verb words is none (Truncate head) same given = apart verb (codes "open") (codes "truncate") 0 is same refl
@@ -45,6 +46,7 @@ no_open verb words is none Close same given = apart verb (codes "open") (codes "
 pub no_chunk : (verb : List ℕ) (words : List (List ℕ)) → verb ≡ codes "chunk" → ((from : Start) (most : ℕ) → GivesChunk words from most → ⊥) → (request : Request) → verb ≡ request_word request → GivesRequest words request → ⊥
 no_chunk verb words is none (Open kind settings) same given = apart verb (codes "chunk") (codes "open") 0 is same refl
 no_chunk verb words is none (Log items) same given = apart verb (codes "chunk") (codes "log") 0 is same refl
+no_chunk verb words is none (Alog items) same given = apart verb (codes "chunk") (codes "alog") 0 is same refl
 no_chunk verb words is none (Chunk from most) same given = none from most given
 no_chunk verb words is none (ChunkStep from by) same given = apart verb (codes "chunk") (codes "step") 0 is same refl
 no_chunk verb words is none (Truncate head) same given = apart verb (codes "chunk") (codes "truncate") 0 is same refl
@@ -61,6 +63,7 @@ no_chunk verb words is none Close same given = apart verb (codes "chunk") (codes
 pub no_step : (verb : List ℕ) (words : List (List ℕ)) → verb ≡ codes "step" → ((from : Start) (by : ℤ) → GivesStep words from by → ⊥) → (request : Request) → verb ≡ request_word request → GivesRequest words request → ⊥
 no_step verb words is none (Open kind settings) same given = apart verb (codes "step") (codes "open") 0 is same refl
 no_step verb words is none (Log items) same given = apart verb (codes "step") (codes "log") 0 is same refl
+no_step verb words is none (Alog items) same given = apart verb (codes "step") (codes "alog") 0 is same refl
 no_step verb words is none (Chunk from most) same given = apart verb (codes "step") (codes "chunk") 0 is same refl
 no_step verb words is none (ChunkStep from by) same given = none from by given
 no_step verb words is none (Truncate head) same given = apart verb (codes "step") (codes "truncate") 0 is same refl
@@ -77,6 +80,7 @@ no_step verb words is none Close same given = apart verb (codes "step") (codes "
 pub no_truncate : (verb : List ℕ) (words : List (List ℕ)) → verb ≡ codes "truncate" → ((head : Option (Bor (List ℕ))) → GivesHead words head → ⊥) → (request : Request) → verb ≡ request_word request → GivesRequest words request → ⊥
 no_truncate verb words is none (Open kind settings) same given = apart verb (codes "truncate") (codes "open") 0 is same refl
 no_truncate verb words is none (Log items) same given = apart verb (codes "truncate") (codes "log") 0 is same refl
+no_truncate verb words is none (Alog items) same given = apart verb (codes "truncate") (codes "alog") 0 is same refl
 no_truncate verb words is none (Chunk from most) same given = apart verb (codes "truncate") (codes "chunk") 0 is same refl
 no_truncate verb words is none (ChunkStep from by) same given = apart verb (codes "truncate") (codes "step") 0 is same refl
 no_truncate verb words is none (Truncate head) same given = none head given
@@ -93,6 +97,7 @@ no_truncate verb words is none Close same given = apart verb (codes "truncate") 
 pub no_reopen : (verb : List ℕ) (words : List (List ℕ)) → verb ≡ codes "reopen" → ((target : Base) (head : Option (Bor (List ℕ))) → GivesMove words target head → ⊥) → (request : Request) → verb ≡ request_word request → GivesRequest words request → ⊥
 no_reopen verb words is none (Open kind settings) same given = apart verb (codes "reopen") (codes "open") 0 is same refl
 no_reopen verb words is none (Log items) same given = apart verb (codes "reopen") (codes "log") 0 is same refl
+no_reopen verb words is none (Alog items) same given = apart verb (codes "reopen") (codes "alog") 0 is same refl
 no_reopen verb words is none (Chunk from most) same given = apart verb (codes "reopen") (codes "chunk") 0 is same refl
 no_reopen verb words is none (ChunkStep from by) same given = apart verb (codes "reopen") (codes "step") 0 is same refl
 no_reopen verb words is none (Truncate head) same given = apart verb (codes "reopen") (codes "truncate") 0 is same refl
@@ -109,6 +114,7 @@ no_reopen verb words is none Close same given = apart verb (codes "reopen") (cod
 pub no_size : (verb : List ℕ) (words : List (List ℕ)) → verb ≡ codes "size" → ((size : Size) → GivesSize words size → ⊥) → (request : Request) → verb ≡ request_word request → GivesRequest words request → ⊥
 no_size verb words is none (Open kind settings) same given = apart verb (codes "size") (codes "open") 0 is same refl
 no_size verb words is none (Log items) same given = apart verb (codes "size") (codes "log") 0 is same refl
+no_size verb words is none (Alog items) same given = apart verb (codes "size") (codes "alog") 0 is same refl
 no_size verb words is none (Chunk from most) same given = apart verb (codes "size") (codes "chunk") 0 is same refl
 no_size verb words is none (ChunkStep from by) same given = apart verb (codes "size") (codes "step") 1 is same refl
 no_size verb words is none (Truncate head) same given = apart verb (codes "size") (codes "truncate") 0 is same refl
@@ -125,6 +131,7 @@ no_size verb words is none Close same given = apart verb (codes "size") (codes "
 pub no_block : (verb : List ℕ) (words : List (List ℕ)) → verb ≡ codes "block" → ((queue : Bool) → GivesBlock words queue → ⊥) → (request : Request) → verb ≡ request_word request → GivesRequest words request → ⊥
 no_block verb words is none (Open kind settings) same given = apart verb (codes "block") (codes "open") 0 is same refl
 no_block verb words is none (Log items) same given = apart verb (codes "block") (codes "log") 0 is same refl
+no_block verb words is none (Alog items) same given = apart verb (codes "block") (codes "alog") 0 is same refl
 no_block verb words is none (Chunk from most) same given = apart verb (codes "block") (codes "chunk") 0 is same refl
 no_block verb words is none (ChunkStep from by) same given = apart verb (codes "block") (codes "step") 0 is same refl
 no_block verb words is none (Truncate head) same given = apart verb (codes "block") (codes "truncate") 0 is same refl

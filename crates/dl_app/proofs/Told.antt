@@ -1,6 +1,6 @@
 -- Notices, and one more.
 use Rattle.std.proofs.Common.{◌≡◌, ℕ, List, [], ◌∷◌, ◌++◌, Result, Ok, Err, OnOk, refl, sym, ap, ◌∙◌, append_assoc, append-nil}
-use Rattle.dl_types.specs.declared.reply.Delivery.{Delivery}
+use Rattle.dl_types.specs.Notice.{Told}
 use Rattle.dl_app.specs.Notices.{AreDeliveryTexts, IsDeliveryText}
 
 -- a text after others
@@ -19,7 +19,7 @@ grows_on (Ok x) old mid new front text first second = grows old mid new front te
 grows_on (Err e) old mid new front text first second = tt
 
 -- a notice after others
-pub one_more : (deliveries : List Delivery) (delivery : Delivery) (told text : List ℕ) → AreDeliveryTexts deliveries told → IsDeliveryText delivery text
+pub one_more : (deliveries : List Told) (delivery : Told) (told text : List ℕ) → AreDeliveryTexts deliveries told → IsDeliveryText delivery text
     → AreDeliveryTexts (deliveries ++ delivery ∷ []) (told ++ text)
 one_more [] delivery told text all one = (text, [], one, refl, ap (λ (l : List ℕ). l ++ text) all ∙ sym (append-nil text))
 one_more (first ∷ deliveries) delivery told text all one =

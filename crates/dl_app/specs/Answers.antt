@@ -46,6 +46,7 @@ IsReplyText reply.Opened text = text ≡ codes "opened"
 IsReplyText (reply.Repaired recovered bad) text = text ≡ repaired_text recovered bad
 IsReplyText reply.Done text = text ≡ codes "done"
 IsReplyText reply.Suspended text = text ≡ codes "suspended"
+IsReplyText reply.Held text = text ≡ codes "held"
 IsReplyText (reply.Items next items bad) text = text ≡ items_text bad items
 IsReplyText reply.Eof text = text ≡ codes "eof"
 IsReplyText (reply.At place) text = text ≡ place_text place

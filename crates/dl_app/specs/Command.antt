@@ -76,6 +76,7 @@ GivesBlock words queue = words ≡ block_word queue ∷ []
 abbrev pub request_word : Request → List ℕ
 request_word (request.Open kind settings) = codes "open"
 request_word (request.Log items) = codes "log"
+request_word (request.Alog items) = codes "alog"
 request_word (request.Chunk from most) = codes "chunk"
 request_word (request.ChunkStep from by) = codes "step"
 request_word (request.Truncate head) = codes "truncate"
@@ -88,10 +89,20 @@ request_word request.Unblock = codes "unblock"
 request_word request.Info = codes "info"
 request_word request.Close = codes "close"
 
+-- a call that words may follow
+abbrev pub takes_words : Request → Bool
+takes_words request.NextFile = false
+takes_words request.Sync = false
+takes_words request.Unblock = false
+takes_words request.Info = false
+takes_words request.Close = false
+takes_words other = true
+
 -- the words of a call after the name of its log
 abbrev pub GivesRequest : List (List ℕ) → Request → Type 0
 GivesRequest words (request.Open kind settings) = GivesArgs words kind settings
 GivesRequest words (request.Log items) = (list_all is_item words ≡ true) × (words_left items ≡ words)
+GivesRequest words (request.Alog items) = (list_all is_item words ≡ true) × (words_left items ≡ words)
 GivesRequest words (request.Chunk from most) = GivesChunk words from most
 GivesRequest words (request.ChunkStep from by) = GivesStep words from by
 GivesRequest words (request.Truncate head) = GivesHead words head
@@ -126,6 +137,7 @@ place_from start.Next next = next
 abbrev pub call_in : {Z : Type 0} → Request → Place → Call Z
 call_in (request.Open kind settings) next = call.Open (args_of settings (plain_args kind))
 call_in (request.Log items) next = call.Log (map item_bytes (words_left items))
+call_in (request.Alog items) next = call.Alog (map item_bytes (words_left items))
 call_in (request.Chunk from most) next = call.Chunk (place_from from next) most
 call_in (request.ChunkStep from by) next = call.ChunkStep (place_from from next) by
 call_in (request.Truncate head) next = call.Truncate (head_bytes head)
@@ -142,6 +154,7 @@ call_in request.Close next = call.Close
 abbrev pub refusal_in : Request → Option Refusal
 refusal_in (request.Open kind settings) = head_refusal settings.head
 refusal_in (request.Log items) = refusal_of (words_left items)
+refusal_in (request.Alog items) = refusal_of (words_left items)
 refusal_in (request.Chunk from most) = None
 refusal_in (request.ChunkStep from by) = None
 refusal_in (request.Truncate head) = head_refusal head

@@ -3,14 +3,15 @@ use Rattle.std.specs.Prelude.{◌≡◌, ℕ, List, [], ◌∷◌, ◌++◌, cod
 use Rattle.std.specs.Fmt.{decimal}
 use Rattle.dl_types.specs.declared.name.ClientId.{ClientId}
 use Rattle.dl_types.specs.declared.name.Name.{Name}
-use Rattle.dl_types.specs.declared.reply.Delivery.{Delivery}
-use Rattle.dl_types.specs.declared.reply.Notice.{Notice}
-use Rattle.dl_types.specs.declared.reply.Notice.TheVariants as notice
+use Rattle.std.specs.List.{flat_map}
+use Rattle.dl_types.specs.declared.notice.Change.{Change}
+use Rattle.dl_types.specs.declared.notice.Change.TheVariants as change
 use Rattle.dl_types.specs.declared.reply.Outcome.{Outcome}
 use Rattle.dl_types.specs.declared.reply.Status.TheVariants as status
 use Rattle.dl_types.specs.Name.{name_text}
+use Rattle.dl_types.specs.Notice.{Said, Changed, ReadOnly, Blocked, NoSuchLog, Told}
 use Rattle.dl_types.specs.Printed.{characters_of}
-use Rattle.dl_app.specs.Answers.{IsRefusalText, IsReplyText}
+use Rattle.dl_app.specs.Answers.{item_text, IsRefusalText, IsReplyText}
 
 -- how many items are gone with the files that the next one replaced
 abbrev pub wrap_text : ℕ → List ℕ
@@ -20,24 +21,35 @@ wrap_text count = codes "wrap " ++ decimal count
 abbrev pub truncated_text : ℕ → List ℕ
 truncated_text count = codes "truncated " ++ decimal count
 
+-- a text says this change of a log
+abbrev pub IsChangeText : Change → List ℕ → Type 0
+IsChangeText (change.Wrap count) text = text ≡ wrap_text count
+IsChangeText (change.Truncated count) text = text ≡ truncated_text count
+IsChangeText change.Full text = text ≡ codes "full"
+IsChangeText (change.ErrorStatus status.Ok) text = text ≡ codes "status ok"
+IsChangeText (change.ErrorStatus (status.Fault refusal)) text = (why : List ℕ) × IsRefusalText refusal why × (text ≡ codes "status " ++ why)
+
+-- a word, and then items that were sent and not logged, as a chunk's items are shown
+abbrev pub sent_text : List ℕ → List (List ℕ) → List ℕ
+sent_text word items = word ++ flat_map item_text items
+
 -- a text says this notice
-abbrev pub IsNoticeText : Notice → List ℕ → Type 0
-IsNoticeText (notice.Wrap count) text = text ≡ wrap_text count
-IsNoticeText (notice.Truncated count) text = text ≡ truncated_text count
-IsNoticeText notice.Full text = text ≡ codes "full"
-IsNoticeText (notice.ErrorStatus status.Ok) text = text ≡ codes "status ok"
-IsNoticeText (notice.ErrorStatus (status.Fault refusal)) text = (why : List ℕ) × IsRefusalText refusal why × (text ≡ codes "status " ++ why)
+abbrev pub IsNoticeText : Said → List ℕ → Type 0
+IsNoticeText (Changed change) text = IsChangeText change text
+IsNoticeText (ReadOnly items) text = text ≡ sent_text (codes "readonly") items
+IsNoticeText (Blocked items) text = text ≡ sent_text (codes "blocked") items
+IsNoticeText NoSuchLog text = text ≡ codes "nosuchlog"
 
 -- a bar, the client that is told, and the log
 abbrev pub told_text : ClientId → Name → List ℕ
 told_text client log = codes " | " ++ decimal client.0 ++ codes " " ++ characters_of (name_text log) ++ codes " "
 
 -- who is told, and the notice
-abbrev pub IsDeliveryText : Delivery → List ℕ → Type 0
+abbrev pub IsDeliveryText : Told → List ℕ → Type 0
 IsDeliveryText delivery text = (said : List ℕ) × IsNoticeText delivery.notice said × (text ≡ told_text delivery.client delivery.log ++ said)
 
 -- notices in their order
-abbrev pub AreDeliveryTexts : List Delivery → List ℕ → Type 0
+abbrev pub AreDeliveryTexts : List Told → List ℕ → Type 0
 AreDeliveryTexts [] text = text ≡ []
 AreDeliveryTexts (delivery ∷ deliveries) text =
     (first : List ℕ) × (others : List ℕ) × IsDeliveryText delivery first × AreDeliveryTexts deliveries others × (text ≡ first ++ others)

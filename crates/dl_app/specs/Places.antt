@@ -34,6 +34,7 @@ places_after reply.Opened client log places = places
 places_after (reply.Repaired recovered bad) client log places = places
 places_after reply.Done client log places = places
 places_after reply.Suspended client log places = places
+places_after reply.Held client log places = places
 places_after (reply.Items next items bad) client log places = given_place next client log places
 places_after reply.Eof client log places = places
 places_after (reply.At next) client log places = given_place next client log places

@@ -24,6 +24,7 @@ pub fn call_of<A: Allocator + Copy>(
     Ok(match *request {
         Request::Open { kind, settings } => Call::Open(settings.args(alloc, kind)?),
         Request::Log(words) => Call::Log(items_of(alloc, words)?),
+        Request::Alog(words) => Call::Alog(items_of(alloc, words)?),
         Request::Chunk { from, most } => Call::Chunk {
             from: place_from(from, client, log, places),
             most,

@@ -36,6 +36,8 @@ pub enum Request<'a> {
     },
     /// The words after the name, each of which writes an item.
     Log(Words<'a>),
+    /// The words after the name, each of which writes an item that is sent.
+    Alog(Words<'a>),
     Chunk {
         from: Start,
         most: u64,

@@ -1,5 +1,5 @@
 // The words of a call after the name of its log.
-ghost use Rattle.std.specs.Prelude.{◌≡◌, ℕ, ℤ, Bool, List, Option, IfSome, IfNone, codes};
+ghost use Rattle.std.specs.Prelude.{◌≡◌, ℕ, ℤ, Bool, true, List, Option, IfSome, IfNone, codes};
 ghost use Rattle.std.specs.Borrow.{Bor};
 ghost use Rattle.std.specs.List.{list_all};
 ghost use Rattle.dl_types.specs.declared.size.Size.{Size};
@@ -10,7 +10,7 @@ ghost use Rattle.dl_app.specs.declared.command.Request.{Request};
 ghost use Rattle.dl_app.specs.declared.command.Start.{Start};
 ghost use Rattle.dl_app.specs.Items.{is_item};
 ghost use Rattle.dl_app.specs.Words.{words_left};
-ghost use Rattle.dl_app.specs.Command.{GivesRequest, GivesArgs, GivesChunk, GivesStep, GivesHead, GivesMove, GivesSize, GivesBlock, kind_word, request_word, start_word, block_word};
+ghost use Rattle.dl_app.specs.Command.{GivesRequest, GivesArgs, GivesChunk, GivesStep, GivesHead, GivesMove, GivesSize, GivesBlock, kind_word, request_word, takes_words, start_word, block_word};
 
 use crate::command::{Request, Start};
 use crate::items::is_item;
@@ -26,10 +26,9 @@ pub fn verb_of<'a>(verb: &[u8], words: Words<'a>) -> Option<Request<'a>>
     if verb == b"open".as_slice() {
         open_of(words)
     } else if verb == b"log".as_slice() {
-        if !are_items(words) {
-            return None;
-        }
-        Some(Request::Log(words))
+        are_items(words).then_some(Request::Log(words))
+    } else if verb == b"alog".as_slice() {
+        are_items(words).then_some(Request::Alog(words))
     } else if verb == b"chunk".as_slice() {
         chunk_of(words)
     } else if verb == b"step".as_slice() {
@@ -38,14 +37,24 @@ pub fn verb_of<'a>(verb: &[u8], words: Words<'a>) -> Option<Request<'a>>
         truncate_of(words)
     } else if verb == b"reopen".as_slice() {
         reopen_of(words)
-    } else if verb == b"nextfile".as_slice() {
-        words.is_empty().then_some(Request::NextFile)
     } else if verb == b"size".as_slice() {
         size_of(words)
-    } else if verb == b"sync".as_slice() {
-        words.is_empty().then_some(Request::Sync)
     } else if verb == b"block".as_slice() {
         block_of(words)
+    } else {
+        bare_of(verb, words)
+    }
+}
+
+// The call of a verb that no word may follow.
+fn bare_of<'a>(verb: &[u8], words: Words<'a>) -> Option<Request<'a>>
+    ensures form { IfSome result (λ request. (verb.now ≡ request_word request) × GivesRequest (words_left words.entry) request) }
+    ensures none { IfNone result ((request : Request) → verb.now ≡ request_word request → GivesRequest (words_left words.entry) request → takes_words request ≡ true) }
+{
+    if verb == b"nextfile".as_slice() {
+        words.is_empty().then_some(Request::NextFile)
+    } else if verb == b"sync".as_slice() {
+        words.is_empty().then_some(Request::Sync)
     } else if verb == b"unblock".as_slice() {
         words.is_empty().then_some(Request::Unblock)
     } else if verb == b"info".as_slice() {

@@ -22,5 +22,5 @@ use std::alloc::Allocator;
 /// an open of it, which asks for nothing but a log of its kind, answers that it was opened.
 pub fn clean_is_opened<A: Allocator>()
     ensures { (client : ClientId) (name : Name) (kind : Kind) (s : LogState) (content : Content) (found : Finding) → s.open_as ≡ None → IsFinding A content (base_of name) kind (s.files (base_of name) kind) found
-        → is_unread found ≡ false → (is_clean found ≡ true) ↔ ((s.files (base_of name) kind ≢ files.Absent) × ((alone {Z = A} s (event.Call client name (call.Open (plain_args kind)))).reply ≡ reply.Opened)) }
+        → is_unread found ≡ false → (is_clean found ≡ true) ↔ ((s.files (base_of name) kind ≢ files.Absent) × ((alone {Z = A} name s (event.Call client name (call.Open (plain_args kind)))).reply ≡ reply.Opened)) }
 {}

@@ -97,15 +97,30 @@ fn disturbs(step: Step<'_>, own: NamedBase<'_>) -> bool {
 }
 
 /// The steps of a hub with a log's own lines alone: the calls that name it, and the exits of clients that called on it
-/// before.
-pub fn alone<'a>(alloc: Global, life: &[Step<'a>], log: &str) -> Result<Vec<Step<'a>>, AllocError> {
+/// before, which tell of it alone.
+pub fn alone<'a>(
+    alloc: Global,
+    life: &[Step<'a>],
+    log: &'a str,
+) -> Result<Vec<Step<'a>>, AllocError> {
     let mut own = Vec::new(alloc);
     for (at, step) in life.iter().enumerate() {
         if is_own(life.get(..at).unwrap_or(life), *step, log) {
-            own.push(*step)?;
+            own.push(heard_alone(*step, log))?;
         }
     }
     Ok(own)
+}
+
+// A step of a log that is run by itself.
+fn heard_alone<'a>(step: Step<'a>, log: &'a str) -> Step<'a> {
+    match step {
+        Step::Line(line) => Step::Line(Line {
+            alone: Some(log),
+            ..line
+        }),
+        other => other,
+    }
 }
 
 // Whether a step is a log's own, after these steps. What is no line stays.

@@ -20,6 +20,30 @@ pub fn expanded(alloc: Global, answer: &str) -> Result<String, AllocError> {
     Ok(text)
 }
 
+/// An answer with the notices of this log alone.
+pub fn heard_of(alloc: Global, answer: &str, log: &str) -> Result<String, AllocError> {
+    let mut text = String::new(alloc);
+    for (at, part) in answer.split('|').enumerate() {
+        let part = part.strip_suffix(" ").unwrap_or(part);
+        if at == 0 {
+            text.push_str(part)?;
+        } else if is_notice_of(part, log) {
+            text.push_str(" |")?;
+            text.push_str(part)?;
+        }
+    }
+    Ok(text)
+}
+
+// Whether this is a notice of this log: its client stands before the log, behind a space.
+fn is_notice_of(notice: &str, log: &str) -> bool {
+    notice
+        .split(' ')
+        .skip(2)
+        .next()
+        .is_some_and(|word| word == log)
+}
+
 // Adds a piece of a word.
 fn push_piece(text: &mut String, piece: &str) -> Result<(), AllocError> {
     let Some((count, copied)) = copies_of(piece) else {

@@ -17,6 +17,8 @@ pub struct Line<'a> {
     pub number: u64,
     pub text: &'a str,
     pub answer: &'a str,
+    /// The log that is run by itself, if one is: the answer then has its notices and no others.
+    pub alone: Option<&'a str>,
 }
 
 /// A file that is there before a hub begins.
@@ -93,6 +95,7 @@ fn take_line<'a>(
                 number,
                 text,
                 answer,
+                alone: None,
             };
             push(steps, Step::Line(line))?;
             Ok(None)

@@ -1,5 +1,5 @@
 // A script that is run on a hub, and its answers one by one.
-use crate::answer::expanded;
+use crate::answer::{expanded, heard_of};
 use crate::case::{BAD_LINE, Line, Step};
 use crate::fault::CaseFault;
 use dl_app::{ScriptFault, run_script};
@@ -99,6 +99,15 @@ fn compare(
     Ok(count)
 }
 
+// The answer that a line is to get.
+fn wanted_of(alloc: Global, line: Line<'_>) -> Result<String, AllocError> {
+    let answer = expanded(alloc, line.answer)?;
+    match line.alone {
+        None => Ok(answer),
+        Some(log) => heard_of(alloc, answer.as_str(), log),
+    }
+}
+
 // Compares the answer to a line with the one that is wanted.
 fn compare_one(
     alloc: Global,
@@ -106,7 +115,7 @@ fn compare_one(
     given: &[u8],
     told: &mut String,
 ) -> Result<(), CaseFault> {
-    let wanted = expanded(alloc, line.answer)?;
+    let wanted = wanted_of(alloc, line)?;
     if wanted.as_bytes() == given {
         return Ok(());
     }
