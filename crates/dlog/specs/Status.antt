@@ -1,9 +1,12 @@
--- The statuses that a script ends the program with.
-use Rattle.std.specs.Prelude.{ℕ, Result, Ok, Err}
+-- The statuses that the program ends with.
+use Rattle.std.specs.Prelude.{ℕ, List, [], ◌∷◌, Option, Some, None, Result, Ok, Err}
 use Rattle.dl_tool.specs.declared.report.Health.{Health}
 use Rattle.dl_tool.specs.declared.report.Health.TheVariants.{Clean, Unclean, Unread}
 use Rattle.dl_app.specs.declared.fault.ScriptFault.{ScriptFault}
 use Rattle.dl_app.specs.declared.fault.ScriptFault.TheVariants.{BadLine, Read, Write, OutOfMemory}
+use Rattle.dl_pipe.specs.declared.dump.Gap.{Gap}
+use Rattle.dl_pipe.specs.declared.fault.PipeFault.{PipeFault}
+use Rattle.dl_pipe.specs.declared.fault.PipeFault.TheVariants as fault
 
 -- 2 where the script is wrong, and 1 where it could not be run on
 abbrev pub status_of : ScriptFault → ℕ
@@ -22,3 +25,24 @@ abbrev pub health_status : Health → ℕ
 health_status Clean = 0
 health_status Unclean = 1
 health_status Unread = 3
+
+-- 0 where no bytes are bad
+abbrev pub gaps_status : List Gap → ℕ
+gaps_status [] = 0
+gaps_status (gap ∷ gaps) = 1
+
+-- 0 where who reads has ended, and 1 where a log was not written out, or lines were not logged, to the end
+abbrev pub fault_status : PipeFault → ℕ
+fault_status (fault.Refused refusal) = 1
+fault_status fault.Blocked = 1
+fault_status fault.Endless = 1
+fault_status fault.Read = 1
+fault_status fault.TooLong = 1
+fault_status fault.Write = 1
+fault_status fault.ReaderGone = 0
+fault_status fault.OutOfMemory = 1
+
+-- 0 where all lines were logged
+abbrev pub append_status : Option PipeFault → ℕ
+append_status None = 0
+append_status (Some stopped) = 1

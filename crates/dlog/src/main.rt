@@ -1,11 +1,14 @@
-//! The program: a script of calls on standard input, and its answers on standard output; and a check of a folder.
+//! The program: a script of calls on standard input, and its answers on standard output; a check of a folder; the items of a log; and lines that are logged.
 #![tactic(auto)]
 
 ghost use Rattle.std.specs.Prelude.{◌≡◌};
 ghost use Rattle.std.specs.Process.{exit_status};
 ghost use Rattle.dlog.specs.Status.{status_of, status_after};
 
+mod append;
 mod check;
+mod dump;
+mod folder;
 
 use anyhow::Result;
 use clap::error::ErrorKind;
@@ -21,6 +24,9 @@ use std::{env, io};
 
 // The bytes that are read, and written, at a time.
 const BUFFER_BYTES: usize = 65_536;
+
+// The blocks of the cache of a command that opens one log.
+const BLOCKS: u32 = 16;
 
 // The status where the program could not do its work, and where what it was given is wrong.
 const FAILED: u8 = 1;
@@ -45,6 +51,12 @@ fn main(rt: HostRuntime) -> Result<ExitCode> {
     };
     if let Some(options) = matches.subcommand_matches("check") {
         return Ok(check::run(&rt, options));
+    }
+    if let Some(options) = matches.subcommand_matches("append") {
+        return Ok(append::run(&rt, options));
+    }
+    if let Some(options) = matches.subcommand_matches("dump") {
+        return Ok(dump::run(&rt, options));
     }
     let Some(options) = matches.subcommand_matches("run") else {
         return Ok(ExitCode::from(MISUSED));
@@ -86,7 +98,9 @@ fn command<'a>(alloc: Global) -> Result<Command<'a>, AllocError> {
         .about("A server of logs that keep their items in order and give them back in chunks")
         .subcommand_required(true)
         .subcommand(run)?
-        .subcommand(check::command(alloc)?)
+        .subcommand(check::command(alloc)?)?
+        .subcommand(dump::command(alloc)?)?
+        .subcommand(append::command(alloc)?)
 }
 
 // Runs the script on standard input over the disk that the options name.
