@@ -1,9 +1,13 @@
 -- Look-ups of kept files, after an edit of their list.
-use Rattle.std.proofs.Common.{◌≡◌, Bool, List, Contains, Some, None, IsSome, Result, Ok, Err, OnOk, cond, ◌∙◌, ap, sym, subst}
+use Rattle.std.proofs.Common.{◌≡◌, Bool, List, ◌∷◌, Contains, Option, Some, None, IsSome, option_map, refl, Result, Ok, Err, OnOk, cond, ◌∙◌, ap, sym, subst}
 use Rattle.std.specs.Cmp.{IsEquivalence}
 use Rattle.std.specs.List.{IsDistinct}
-use Rattle.std.specs.Map.{lookup, keys_of, remove_entry, set_value}
+use Rattle.std.specs.Map.{lookup, lookup_entry, keys_of, remove_entry, set_value}
 use Rattle.std.proofs.lemmas.Map.{lookup-none, none_passes_from_lookup, lookup-remove_entry, lookup-set_value}
+use Rattle.std.specs.Option.{option_map_or}
+use Rattle.lru.specs.LruCache.{promoted}
+use Rattle.lru.proofs.Pairs.{lookup-lookup_entry}
+use Rattle.lru.proofs.CallerLemmas.{Contains-lookup_entry}
 use Rattle.lru.proofs.Splits.{all_at, all_from}
 use Rattle.dl_types.specs.declared.file.FileName.{FileName}
 use Rattle.dl_types.specs.contracts.file.FileNamePartialEq.TheImpl.{ghosts as file_ghosts}
@@ -31,6 +35,16 @@ module _ {X : Type 0} (name : FileName) where
   kept_written es w some =
       lookup-set_value laws (eq name) (λ x y. laws.congr name x y) name w es some
       ∙ ap (λ t. cond t (Some w) (lookup (eq name) es)) (laws.refl name)
+
+  -- the entry that was looked up goes first, and is found as before
+  pub kept_promoted : (es : List (FileName × X)) → lookup (eq name) (promoted (eq name) es) ≡ lookup (eq name) es
+  kept_promoted es = by (lookup_entry (eq name) es) refl
+    where
+      by : (o : Option (FileName × X)) → lookup_entry (eq name) es ≡ o → lookup (eq name) (option_map_or (λ e. e ∷ remove_entry (eq name) es) o es) ≡ lookup (eq name) es
+      by None h = refl
+      by (Some e) h =
+          ap (λ t. cond t (Some e.1) (lookup (eq name) (remove_entry (eq name) es))) (Contains-lookup_entry (eq name) es e h).1
+          ∙ ap (option_map (λ (f : FileName × X). f.1)) (sym h) ∙ lookup-lookup_entry (eq name) es
 
 -- what holds after a call that succeeded still holds if its answer is handed on and nothing else is changed
 pub still_on_ok : {T E X : Type 0} (P : X → Type 0) (old new : X) (handed answer : Result T E) → handed ≡ answer → OnOk handed (new ≡ old) → OnOk answer (P old) → OnOk handed (P new)

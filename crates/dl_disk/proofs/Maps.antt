@@ -11,7 +11,7 @@ use Rattle.dl_types.specs.declared.file.FileName.{FileName}
 use Rattle.dl_types.specs.FileName.{file_cmp, file_cmp_total, file_cmp_exact, Content}
 use Rattle.dl_types.specs.contracts.file.FileNamePartialEq.TheImpl.{ghosts as file_ghosts}
 use Rattle.dl_types.proofs.Keys.{file_eq_decides, file_cmp_eq, apart, decides_laws}
-use Rattle.dl_disk.specs.Disk.{IsOnce}
+use Rattle.dl_disk.specs.Disk.{IsOnce, IsShorter}
 use Rattle.dl_disk.specs.Memory.{with_bytes, content_of}
 
 abbrev eq : FileName → FileName → Bool
@@ -90,6 +90,11 @@ module _ {Z : Type 0} where
   -- the same where the look-up has been made
   pub content_is : (es : List (FileName × Vec ℕ Z)) (f : FileName) (o : Option (Vec ℕ Z)) → o ≡ lookup (eq f) es → finite.get (content_of es) f ≡ option_map bytes_of o
   content_is es f o is = content_at es f ∙ ap (option_map bytes_of) (sym is)
+
+  -- and so where what was found is too short
+  pub shorter_is : (es : List (FileName × Vec ℕ Z)) (f : FileName) (o : Option (Vec ℕ Z)) (end : ℕ) → o ≡ lookup (eq f) es
+      → IsShorter (option_map bytes_of o) end → IsShorter (finite.get (content_of es) f) end
+  shorter_is es f o end is short = subst (λ (t : Option (List ℕ)). IsShorter t end) (sym (content_is es f o is)) short
 
   module _ (old new : List (FileName × Vec ℕ Z)) (file : FileName) where
     -- the new table has another value at one name

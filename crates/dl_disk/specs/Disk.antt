@@ -1,5 +1,5 @@
 -- What the calls of a disk do to its files and to its counts of faults.
-use Rattle.std.specs.Prelude.{◌≡◌, ◌≢◌, ℕ, ◌+◌, ◌<◌, ◌≤◌, ◌^◌, ◌⊎◌, List, [], ◌++◌, Bool, IsTrue, take, drop, length, slice_index_or, unwrap_or, Option, Some, None, Result, IsErr}
+use Rattle.std.specs.Prelude.{⊤, ◌≡◌, ◌≢◌, ℕ, ◌+◌, ◌<◌, ◌≤◌, ◌^◌, ◌⊎◌, List, [], ◌++◌, Bool, IsTrue, take, drop, length, slice_index_or, unwrap_or, Option, Some, None, Result, IsErr}
 use Rattle.std.specs.FinMap as map
 use Rattle.dl_types.specs.declared.name.Base.{Base}
 use Rattle.dl_types.specs.declared.file.FileName.{FileName}
@@ -58,6 +58,11 @@ pub record Torn (old : List ℕ) (at n : ℕ) (new : List ℕ) : Type 0 where
 abbrev pub TornAt : Option (List ℕ) → ℕ → ℕ → Option (List ℕ) → Type 0
 TornAt None at n new = new ≡ None
 TornAt (Some old) at n new = (text : List ℕ) × (new ≡ Some text) × Torn old at n text
+
+-- no file is there, or it has not so many bytes
+abbrev pub IsShorter : Option (List ℕ) → ℕ → Type 0
+IsShorter None end = ⊤
+IsShorter (Some text) end = length text < end
 
 -- no name stands at two places
 abbrev pub IsOnce : List FileName → Type 0

@@ -1,9 +1,9 @@
 // The files of a disk in memory, each a vector of bytes.
-ghost use Rattle.std.specs.Prelude.{◌≡◌, ◌≤◌, ◌↔◌, ℕ, List, Some, IsSome, OnOk, OnErr, IfOk, Contains, length, take, drop};
+ghost use Rattle.std.specs.Prelude.{◌≡◌, ◌≤◌, ◌<◌, ◌+◌, ◌↔◌, ℕ, List, Some, IsSome, OnOk, OnErr, IfOk, Contains, length, take, drop};
 ghost use Rattle.std.specs.Option.{option_copied};
 ghost use Rattle.std.specs.FinMap as map;
 ghost use Rattle.dl_types.specs.declared.file.FileName.{FileName};
-ghost use Rattle.dl_disk.specs.Disk.{written, IsOnce};
+ghost use Rattle.dl_disk.specs.Disk.{written, IsShorter, IsOnce};
 ghost use Rattle.dl_disk.specs.Memory.{content_of};
 
 use crate::fault::Fault;
@@ -47,6 +47,7 @@ fn write_over<A: Allocator>(
     requires { at ≤ length text.old.items }
     ensures ok { OnOk result (text.new.items ≡ written text.old.items at bytes.now) }
     ensures err { OnErr result (text.new.items ≡ text.old.items) }
+    ensures short { OnErr result (length text.old.items < at + length bytes.now) }
 {
     let over = bytes.len().min(text.len() - at);
     text.extend_from_slice(&bytes[over..])?;
@@ -54,7 +55,7 @@ fn write_over<A: Allocator>(
     Ok(())
 }
 
-/// Writes into a file. If it fails, nothing has changed.
+/// Writes into a file. If it fails, nothing has changed. Memory is wanted only past the end.
 pub(crate) fn write<A: Allocator>(
     files: &mut Files<A>,
     file: FileName,
@@ -64,6 +65,7 @@ pub(crate) fn write<A: Allocator>(
     ensures ok { OnOk result ((text : List ℕ) × (map.get (content_of files.old.entries) file ≡ Some text) × (at ≤ length text)
         × (content_of files.new.entries ≡ map.insert (content_of files.old.entries) file (written text at bytes.now))) }
     ensures err { OnErr result (content_of files.new.entries ≡ content_of files.old.entries) }
+    ensures short { OnErr result (IsShorter (map.get (content_of files.old.entries) file) (at + length bytes.now)) }
 {
     let Some(text) = files.get_mut(&file) else {
         return Err(Fault);
@@ -86,6 +88,7 @@ pub(crate) fn cut<A: Allocator>(
     ensures ok { OnOk result ((text : List ℕ) × (map.get (content_of files.old.entries) file ≡ Some text) × (size ≤ length text)
         × (content_of files.new.entries ≡ map.insert (content_of files.old.entries) file (take size text))) }
     ensures err { OnErr result (content_of files.new.entries ≡ content_of files.old.entries) }
+    ensures short { OnErr result (IsShorter (map.get (content_of files.old.entries) file) size) }
 {
     let Some(text) = files.get_mut(&file) else {
         return Err(Fault);

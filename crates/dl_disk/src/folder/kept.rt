@@ -34,8 +34,7 @@ impl Kept {
     pub(crate) fn serves(&mut self, name: FileName, access: Access) -> bool
         ensures { IsTrue result → IsKept self.new.files.entries name }
     {
-        self.files.promote(&name);
-        match self.files.peek(&name) {
+        match self.files.get(&name) {
             Some(opened) => opened.serves(name, access),
             None => false,
         }
