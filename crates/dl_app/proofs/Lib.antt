@@ -1,11 +1,10 @@
 pub mod Numbers
-pub mod Bytes
 pub mod Spaces
 pub mod Sizes
 pub mod Forms
 pub mod Written
 pub mod Chosen
-pub mod Texts
 pub mod Kept
 pub mod Scripts
 pub mod Told
+pub mod Whole

@@ -11,10 +11,8 @@ use Rattle.dl_types.specs.declared.place.Place.{Place}
 use Rattle.dl_types.specs.declared.place.Place.TheVariants.{Start}
 use Rattle.std.proofs.KnownBytes.{Appends-trans, Appends-kept}
 use Rattle.dl_disk.specs.Disk.{DiskState}
-use Rattle.dl_app.specs.declared.lines.TheConstants.{LINE_LIMIT, LINES_LIMIT}
-use Rattle.dl_app.specs.declared.lines.NextLine.{NextLine}
-use Rattle.dl_app.specs.declared.lines.NextLine.TheVariants.{Read, TooLong}
-use Rattle.dl_app.specs.Lines.{lines_of, HasLines, TakesLines, IsNextTooLong}
+use Rattle.dl_app.specs.declared.script.TheConstants.{LINE_LIMIT, LINES_LIMIT}
+use Rattle.dl_lines.specs.Lines.{HasLines}
 use Rattle.dl_app.specs.Script.{Stage, IsLine, IsScript, Runs, RunsOn}
 
 -- an answer that was written
@@ -32,39 +30,6 @@ refused_is A (Some r) fail refusal is some none = cc
 pub called_is : {X : Type 0} (o : Option Refusal) (event : X) → IfSome o (λ r. ◌≡◌ {A = Result X Fail} (Ok event) (Err (Refused r))) → o ≡ None
 called_is None event some = refl
 called_is (Some r) event some = let bad : ⊥ = cc in absurd bad
-
--- ---- the lines of a reader
-
-pub takes_nil : (a : Option (List ℕ)) → TakesLines a a []
-takes_nil None = tt
-takes_nil (Some text) = refl
-
-pub takes_more : (a b c : Option (List ℕ)) (lines more : List (List ℕ)) → TakesLines a b lines → TakesLines b c more → TakesLines a c (lines ++ more)
-takes_more None b c lines more p q = tt
-takes_more (Some x) None c lines more p q = absurd p
-takes_more (Some x) (Some y) None lines more p q = absurd q
-takes_more (Some x) (Some y) (Some z) lines more p q = p ∙ ap (λ (l : List (List ℕ)). lines ++ l) q ∙ sym (append_assoc lines more (lines_of z))
-
-pub has_all : (a b : Option (List ℕ)) (lines more : List (List ℕ)) → TakesLines a b lines → HasLines b more → HasLines a (lines ++ more)
-has_all None b lines more p q = tt
-has_all (Some x) None lines more p q = absurd p
-has_all (Some x) (Some y) lines more p q = p ∙ ap (λ (l : List (List ℕ)). lines ++ l) q
-
--- what a reader has left are lines
-pub has_some : (a : Option (List ℕ)) → (lines : List (List ℕ)) × HasLines a lines
-has_some None = ([], tt)
-has_some (Some text) = (lines_of text, refl)
-
-pub has_next : (a b : Option (List ℕ)) (line : List ℕ) → TakesLines a b (line ∷ []) → (others : List (List ℕ)) × HasLines a (line ∷ others)
-has_next None b line p = ([], tt)
-has_next (Some x) None line p = absurd p
-has_next (Some x) (Some y) line p = (lines_of y, p)
-
--- a line that is there, of any length
-pub has_first : (a b : Option (List ℕ)) (line : List ℕ) (next : NextLine) → (next ≡ Read) ⊎ (next ≡ TooLong) → (next ≡ Read → TakesLines a b (line ∷ [])) → (next ≡ TooLong → IsNextTooLong a)
-    → (first : List ℕ) × (others : List (List ℕ)) × HasLines a (first ∷ others)
-has_first a b line next (inl is) read long = let some = has_next a b line (read is) in (line, some.0, some.1)
-has_first a b line next (inr is) read long = let some = long is in (some.0, some.1, some.2)
 
 module _ {D : Type 0} (state : D → DiskState) (Z : Type 0) where
   -- a script and a line after it are a script

@@ -12,7 +12,7 @@ use Rattle.memchr.specs.Find.{IsFirstByte, is_byte}
 use Rattle.dl_types.specs.declared.size.Size.{Size}
 use Rattle.dl_types.specs.declared.size.Size.TheVariants.{Infinity, Limit, Wrap}
 use Rattle.dl_app.specs.Words.{number_in, files_of, WritesSize}
-use Rattle.dl_app.proofs.Bytes.{is_false}
+use Rattle.dl_lines.proofs.Positions.{is_false}
 use Rattle.dl_app.proofs.Chosen.{both_ways}
 
 -- an `x`

@@ -11,3 +11,4 @@ pub mod Places
 pub mod Lines
 pub mod Script
 pub mod Session
+pub mod Whole

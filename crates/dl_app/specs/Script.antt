@@ -22,7 +22,7 @@ use Rattle.dl_hub.specs.View.{HubView}
 use Rattle.dl_hub.specs.Run.{IsRun}
 use Rattle.dl_app.specs.declared.command.Command.{Command}
 use Rattle.dl_app.specs.declared.command.Command.TheVariants as command
-use Rattle.dl_app.specs.declared.lines.TheConstants.{LINE_LIMIT, LINES_LIMIT}
+use Rattle.dl_app.specs.declared.script.TheConstants.{LINE_LIMIT, LINES_LIMIT}
 use Rattle.dl_app.specs.Answers.{hex, IsLineOf, IsRefusalText}
 use Rattle.dl_app.specs.Notices.{IsOutcomeText}
 use Rattle.dl_app.specs.Command.{IsForm, call_in, refusal_in}

@@ -1,7 +1,9 @@
 // Why a script ends before its text does.
 ghost use Rattle.std.specs.Prelude.{◌≡◌};
 ghost use Rattle.dl_app.specs.declared.fault.ScriptFault.TheVariants.{OutOfMemory};
+ghost use Rattle.dl_app.specs.Lines.{unread};
 
+use dl_lines::LineFault;
 use std::alloc::{AllocError, AllocFailed};
 use thiserror::Error;
 
@@ -34,5 +36,16 @@ impl<T: Drop> From<AllocFailed<T>> for ScriptFault {
 
     fn from(_: AllocFailed<T>) -> ScriptFault {
         ScriptFault::OutOfMemory
+    }
+}
+
+impl From<LineFault> for ScriptFault {
+    ghost from_gives = { λ fault e. e ≡ unread fault };
+
+    fn from(fault: LineFault) -> ScriptFault {
+        match fault {
+            LineFault::Read => ScriptFault::Read,
+            LineFault::OutOfMemory => ScriptFault::OutOfMemory,
+        }
     }
 }

@@ -1,5 +1,5 @@
 // Items as a script writes them.
-ghost use Rattle.std.specs.Prelude.{◌≡◌, ◌<◌, ◌≤◌, length, map, Err, IfOk, IfErr, IfSome, IfNone};
+ghost use Rattle.std.specs.Prelude.{◌≡◌, ◌<◌, ◌≤◌, List, ℕ, length, map, Err, IfOk, IfErr, IfSome, IfNone};
 ghost use Rattle.std.specs.List.{list_all, list_any};
 ghost use Rattle.dl_types.specs.declared.refusal.Argument.TheVariants as argument;
 ghost use Rattle.dl_types.specs.declared.refusal.Refusal.TheVariants as refusal;
@@ -67,11 +67,11 @@ pub fn is_item(word: &[u8]) -> bool
     }
 }
 
-// How many bytes the item of a word has.
-fn item_length(word: &[u8]) -> u64
-    ensures { result ≡ length (item_bytes word.now) }
+// How many bytes the item has that is written so.
+fn item_length(written: Written<'_>) -> u64
+    ensures { (word : List ℕ) → IsReadAs word written.entry → result ≡ length (item_bytes word) }
 {
-    match read_word(word) {
+    match written {
         Written::Plain(bytes) => bytes.len() as u64,
         Written::Copies { count, .. } => count,
     }
@@ -83,10 +83,11 @@ pub fn item_of<A: Allocator>(alloc: A, word: &[u8]) -> Result<Item<A>, Fail>
     ensures refused { ITEM_LIMIT < length (item_bytes word.now) → result ≡ Err (Fail.Refused (refusal.BadArg argument.Item)) }
     ensures memory { length (item_bytes word.now) ≤ ITEM_LIMIT → IfErr result (λ fail. fail ≡ Fail.OutOfMemory) }
 {
-    if is_too_long(word) {
+    let written = read_word(word);
+    if item_length(written) > ITEM_LIMIT as u64 {
         return Err(Fail::Refused(Refusal::BadArg(Argument::Item)));
     }
-    let bytes = match read_word(word) {
+    let bytes = match written {
         Written::Plain(bytes) => Vec::from_slice(alloc, bytes),
         Written::Copies { count, of } => vec![in alloc; of; count as usize],
     };
@@ -112,7 +113,7 @@ pub fn head_of<A: Allocator>(alloc: A, head: Option<&[u8]>) -> Result<Option<Ite
 fn is_too_long(word: &[u8]) -> bool
     ensures { result ≡ is_too_long word.now }
 {
-    item_length(word) > ITEM_LIMIT as u64
+    item_length(read_word(word)) > ITEM_LIMIT as u64
 }
 
 // Whether some word is too long.

@@ -7,7 +7,7 @@ mod command;
 mod fault;
 mod info;
 mod items;
-mod lines;
+mod law;
 mod notice;
 mod options;
 mod places;
@@ -16,4 +16,5 @@ mod verbs;
 mod words;
 
 pub use fault::ScriptFault;
+pub use law::a_script_is_a_run;
 pub use script::run_script;

@@ -2,9 +2,9 @@
 ghost use Rattle.std.specs.Prelude.{◌≡◌, ◌≢◌, ◌+◌, ◌≤◌, ◌++◌, ◌∷◌, [], ℕ, List, None, Err, IfErr, OnOk, length};
 ghost use Rattle.std.specs.List.{flat_map};
 ghost use Rattle.std.specs.Io.KnownBytes.{Appends};
+ghost use Rattle.dl_lines.specs.Lines.{HasLines};
 ghost use Rattle.dl_app.specs.Answers.{hex};
 ghost use Rattle.dl_app.specs.Command.{call_in, refusal_in};
-ghost use Rattle.dl_app.specs.Lines.{HasLines};
 ghost use Rattle.dl_app.specs.Places.{place_of};
 ghost use Rattle.dl_app.specs.Script.{HasNoForm, IsBadLine, IsCalled, IsLine, IsStepped, Runs, RunsOn, ShowsFile};
 ghost use Rattle.dl_app.specs.Session.{stage_of, IsAnswerFault};
@@ -13,13 +13,19 @@ use crate::answer::{push_hex, put_outcome, put_refusal};
 use crate::call::call_of;
 use crate::command::{Command, Request, command_of, is_passed_over};
 use crate::fault::ScriptFault;
-use crate::lines::{LINES_LIMIT, NextLine, next_line};
 use crate::places::Places;
 use dl_disk::Disk;
 use dl_hub::{FileFault, Hub};
+use dl_lines::{NextLine, next_line};
 use dl_types::{Call, ClientId, Event, Fail, FileName, Name, Refusal};
 use std::alloc::Allocator;
 use std::io::{BufRead, Write};
+
+/// The longest line, in bytes, without its line feed.
+pub const LINE_LIMIT: usize = 65_536;
+
+/// The most lines of a script.
+pub const LINES_LIMIT: u64 = 1_000_000;
 
 // How many bytes of a file are shown at a time.
 const SHOWN_BYTES: usize = 4_096;
@@ -78,13 +84,13 @@ impl<A: Allocator + Copy> Session<A> {
     {
         let mut line = Vec::new(self.alloc);
         for number in 1..=LINES_LIMIT {
-            match next_line(input, &mut line)? {
+            match next_line(input, LINE_LIMIT, &mut line)? {
                 NextLine::Read => self.run_line(number, line.as_slice(), output, hub)?,
                 NextLine::TooLong => return Err(ScriptFault::BadLine(number)),
                 NextLine::End => return Ok(()),
             }
         }
-        match next_line(input, &mut line)? {
+        match next_line(input, LINE_LIMIT, &mut line)? {
             NextLine::End => Ok(()),
             NextLine::Read | NextLine::TooLong => Err(ScriptFault::BadLine(LINES_LIMIT + 1)),
         }

@@ -1,4 +1,4 @@
-use Rattle.dl_app.proofs.Bytes.{is_position}
+use Rattle.dl_lines.proofs.Positions.{is_position}
 use Rattle.dl_app.proofs.words.first_space.Goals as goal
 
 pub returns-clause-value : goal.returns-clause-value

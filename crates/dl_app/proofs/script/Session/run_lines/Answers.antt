@@ -1,10 +1,11 @@
 use Rattle.std.proofs.Common.{rules, ◌≡◌, ◌+◌, ◌++◌, ◌≤◌, ◌∷◌, [], ℕ, List, Ok, Err, length, length-append, sym, ap, ◌∙◌, subst, arith, inl, inr}
 use Rattle.dl_app.specs.declared.fault.ScriptFault.TheVariants.{BadLine}
-use Rattle.dl_app.specs.declared.lines.TheConstants.{LINE_LIMIT, LINES_LIMIT}
-use Rattle.dl_app.specs.Lines.{TakesLines}
+use Rattle.dl_app.specs.declared.script.TheConstants.{LINE_LIMIT, LINES_LIMIT}
+use Rattle.dl_lines.specs.Lines.{TakesLines}
 use Rattle.dl_app.specs.Script.{Runs, Stage}
 use Rattle.dl_app.specs.Session.{stage_of}
-use Rattle.dl_app.proofs.Scripts.{takes_more, has_all, has_some, has_next, has_first, runs_more}
+use Rattle.dl_lines.proofs.Readers.{takes_more, has_all, has_some, has_next, has_first}
+use Rattle.dl_app.proofs.Scripts.{runs_more}
 use Rattle.dl_app.proofs.script.Session.run_lines.Goals as goal
 
 pub returns-in_err-next_line-clause-unread : goal.returns-in_err-next_line-clause-unread
@@ -54,7 +55,7 @@ loop-number-preserved g c =
 pub returns : goal.returns
 returns g c =
     let so_far = c.loop-number.invariant in
-    let next = has_first _ _ c.next_line-2.new.line.items c.in_ok-next_line-2.field-0 c.in-Read-2.is (λ is. c.in_ok-next_line-2.ensures.read (ap Ok is)) (λ is. c.in_ok-next_line-2.ensures.long (ap Ok is)) in
+    let next = has_first LINE_LIMIT _ _ c.next_line-2.new.line.items c.in_ok-next_line-2.field-0 c.in-Read-2.is (λ is. c.in_ok-next_line-2.ensures.read (ap Ok is)) (λ is. c.in_ok-next_line-2.ensures.long (ap Ok is)) in
     record {
       whole = tt;
       bad_line = λ k e.

@@ -1,6 +1,6 @@
 -- The lines so far were run, and their answers are written.
 use Rattle.std.proofs.Common.{◌≡◌, ◌+◌, ℕ, List, length}
-use Rattle.dl_app.specs.Lines.{TakesLines}
+use Rattle.dl_lines.specs.Lines.{TakesLines}
 use Rattle.dl_app.specs.Script.{Runs}
 use Rattle.dl_app.specs.Session.{stage_of}
 use Rattle.dl_app.proofs.script.Session.run_lines.Given as goal

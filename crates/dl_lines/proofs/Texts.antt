@@ -6,9 +6,7 @@ use Rattle.std.proofs.lemmas.Bool.{ne_eqb, eqb-true, eqb-false, ltb-false}
 use Rattle.std.proofs.lemmas.List.{take_more}
 use Rattle.std.proofs.lemmas.List.Elements.{All-nil, All-cons, All-head, All-tail, All-append, All-from_get_or}
 use Rattle.std.proofs.lemmas.List.Quantifiers.{position-Some}
-use Rattle.dl_app.specs.declared.lines.TheConstants.{LINE_LIMIT}
-use Rattle.dl_app.specs.Lines.{lines_of, HasLines, TakesLines, IsNextTooLong}
-use Rattle.dl_app.proofs.Spaces.{none_where}
+use Rattle.dl_lines.specs.Lines.{lines_of, HasLines, TakesLines, IsNextTooLong}
 
 -- a byte that is no line feed begins the first line
 other_byte : (x : ℕ) (bytes : List ℕ) → x ≢ 10 → lines_of (x ∷ bytes) ≡ onto_first x (lines_of bytes)
@@ -57,6 +55,10 @@ plain_from : (xs : List ℕ) → length xs ≤ position_or_len (λ b. b == 10) x
 plain_from [] long = All-nil (λ b. b ≢ 10)
 plain_from (x ∷ xs) long = plain_case x xs (x == 10) refl long (plain_from xs)
 
+none_where : (b : Bool) (n : ℕ) → cond b (Some n) None ≡ None → b ≡ false
+none_where true n e = let bad : ⊥ = cc in absurd bad
+none_where false n e = refl
+
 -- where there is no line feed
 pub none_plain : (xs : List ℕ) → position (λ b. b == 10) xs ≡ None → All (λ b. b ≢ 10) xs
 none_plain xs e = plain_from xs (ltb-false _ _ (none_where _ (position_or_len (λ b. b == 10) xs) e))
@@ -103,11 +105,11 @@ takes_none (Some x) None line p end none = absurd p
 takes_none (Some x) (Some y) [] p end none = ap lines_of (p ∙ end)
 takes_none (Some x) (Some y) (b ∷ line) p end none = absurd (omega arith)
 
--- the line has more bytes than any may have
-pub takes_long : (a b : Option (List ℕ)) (line : List ℕ) → Consumes a b line → All (λ x. x ≢ 10) line → LINE_LIMIT < length line → IsNextTooLong a
-takes_long None b line p plain long = (line, [], tt, long)
-takes_long (Some x) None line p plain long = absurd p
-takes_long (Some x) (Some y) [] p plain long = absurd (omega arith)
-takes_long (Some x) (Some y) (b ∷ line) p plain long =
+-- the line has more bytes than the limit
+pub takes_long : (limit : ℕ) (a b : Option (List ℕ)) (line : List ℕ) → Consumes a b line → All (λ x. x ≢ 10) line → limit < length line → IsNextTooLong limit a
+takes_long limit None b line p plain long = (line, [], tt, long)
+takes_long limit (Some x) None line p plain long = absurd p
+takes_long limit (Some x) (Some y) [] p plain long = absurd (omega arith)
+takes_long limit (Some x) (Some y) (b ∷ line) p plain long =
     let at = lines_long b line y plain in
     (at.0, at.1, ap lines_of p ∙ at.2, omega (arith, at.3))

@@ -1,0 +1,3 @@
+pub mod Positions
+pub mod Texts
+pub mod Readers
