@@ -4,4 +4,8 @@ pub mod Wraps
 pub mod WrapSets
 pub mod Logs
 pub mod Tellings
+pub mod Tables
+pub mod Lists
+pub mod Copies
+pub mod Strays
 pub mod Opened

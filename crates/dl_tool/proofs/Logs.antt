@@ -12,10 +12,10 @@ use Rattle.dl_tool.specs.declared.line.LogFiles.{LogFiles}
 use Rattle.dl_tool.specs.Folder.{main_part, main_file, log_with, log_of}
 
 -- a list of one has it, and nothing else
-one_of : {X : Type 0} (x : X) → Contains (x ∷ []) x
+pub one_of : {X : Type 0} (x : X) → Contains (x ∷ []) x
 one_of x = (0, omega arith, refl)
 
-the_one : {X : Type 0} (x y : X) → Contains (x ∷ []) y → x ≡ y
+pub the_one : {X : Type 0} (x y : X) → Contains (x ∷ []) y → x ≡ y
 the_one x y (k, below, is) = subst (λ (j : ℕ). get_or (x ∷ []) j y ≡ y) (let zero_is : k ≡ 0 = omega (arith, below) in zero_is) is
 
 -- the log of its file

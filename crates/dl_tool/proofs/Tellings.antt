@@ -8,9 +8,10 @@ use Rattle.dl_types.specs.FileName.{Content}
 use Rattle.dl_disk.specs.Disk.{DiskState}
 use Rattle.dl_tool.specs.declared.finding.Finding.{Finding}
 use Rattle.dl_tool.specs.declared.line.LogFiles.{LogFiles}
-use Rattle.dl_tool.specs.Line.{IsLine}
+use Rattle.dl_tool.specs.declared.told.Style.{Style}
 use Rattle.std.proofs.lemmas.List.Folds.{list_all-append, list_any-append}
 use Rattle.dl_tool.specs.Report.{is_clean, is_unread, FindsLog, AreFound, AreLines, Tells}
+use Rattle.dl_tool.specs.Told.{IsTold}
 
 pub found_more : (Z : Type 0) (content : Content) (logs : List LogFiles) (xs : List Finding) (log : LogFiles) (x : Finding) → AreFound Z content logs xs → FindsLog Z content log x
     → AreFound Z content (logs ++ log ∷ []) (xs ++ x ∷ [])
@@ -19,29 +20,29 @@ found_more Z content [] (y ∷ ys) log x all one = absurd all
 found_more Z content (l ∷ ls) [] log x all one = absurd all
 found_more Z content (l ∷ ls) (y ∷ ys) log x all one = (all.0, found_more Z content ls ys log x all.1 one)
 
-pub lines_more : (logs : List LogFiles) (xs : List Finding) (log : LogFiles) (x : Finding) (told line : List ℕ) → AreLines logs xs told → IsLine log x line
-    → AreLines (logs ++ log ∷ []) (xs ++ x ∷ []) (told ++ line)
-lines_more [] [] log x told line all one = (line, [], one, refl, ap (λ (l : List ℕ). l ++ line) all ∙ sym (append-nil line))
-lines_more [] (y ∷ ys) log x told line all one = absurd all
-lines_more (l ∷ ls) [] log x told line all one = absurd all
-lines_more (l ∷ ls) (y ∷ ys) log x told line all one =
-    (all.0, all.1 ++ line, all.2, lines_more ls ys log x all.1 line all.3 one, ap (λ (t : List ℕ). t ++ line) all.4 ∙ append_assoc all.0 all.1 line)
+pub lines_more : (style : Style) (logs : List LogFiles) (xs : List Finding) (log : LogFiles) (x : Finding) (told line : List ℕ) → AreLines style logs xs told → IsTold style log x line
+    → AreLines style (logs ++ log ∷ []) (xs ++ x ∷ []) (told ++ line)
+lines_more style [] [] log x told line all one = (line, [], one, refl, ap (λ (l : List ℕ). l ++ line) all ∙ sym (append-nil line))
+lines_more style [] (y ∷ ys) log x told line all one = absurd all
+lines_more style (l ∷ ls) [] log x told line all one = absurd all
+lines_more style (l ∷ ls) (y ∷ ys) log x told line all one =
+    (all.0, all.1 ++ line, all.2, lines_more style ls ys log x all.1 line all.3 one, ap (λ (t : List ℕ). t ++ line) all.4 ∙ append_assoc all.0 all.1 line)
 
 -- one log more
-pub tells_more : (Z : Type 0) (old mid new : DiskState) (logs : List LogFiles) (found : List Finding) (log : LogFiles) (x : Finding) (written now after : Option (List ℕ))
-    → (IsTrue new.honest → IsTrue mid.honest) → (IsTrue mid.honest → mid.content ≡ old.content) → Tells Z old mid logs found written now
-    → (IsTrue new.honest → FindsLog Z mid.content log x) → (line : List ℕ) → IsLine log x line → Appends now after line
-    → Tells Z old new (logs ++ log ∷ []) (found ++ x ∷ []) written after
-tells_more Z old mid new logs found log x written now after stayed same told finds line is appends = record {
+pub tells_more : (Z : Type 0) (style : Style) (old mid new : DiskState) (logs : List LogFiles) (found : List Finding) (log : LogFiles) (x : Finding) (written now after : Option (List ℕ))
+    → (IsTrue new.honest → IsTrue mid.honest) → (IsTrue mid.honest → mid.content ≡ old.content) → Tells Z style old mid logs found written now
+    → (IsTrue new.honest → FindsLog Z mid.content log x) → (line : List ℕ) → IsTold style log x line → Appends now after line
+    → Tells Z style old new (logs ++ log ∷ []) (found ++ x ∷ []) written after
+tells_more Z style old mid new logs found log x written now after stayed same told finds line is appends = record {
   finds = λ h. found_more Z old.content logs found log x (told.finds (stayed h)) (subst (λ (m : Content). FindsLog Z m log x) (same (stayed h)) (finds h));
   text = told.text ++ line;
-  lines = lines_more logs found log x told.text line told.lines is;
+  lines = lines_more style logs found log x told.text line told.lines is;
   appends = Appends-trans written now after told.text line told.appends appends;
 }
 
 -- no log yet
-pub tells_none : (Z : Type 0) (disk : DiskState) (written : Option (List ℕ)) → Tells Z disk disk [] [] written written
-tells_none Z disk written = record { finds = λ h. tt; text = []; lines = refl; appends = Appends-nil written }
+pub tells_none : (Z : Type 0) (style : Style) (disk : DiskState) (written : Option (List ℕ)) → Tells Z style disk disk [] [] written written
+tells_none Z style disk written = record { finds = λ h. tt; text = []; lines = refl; appends = Appends-nil written }
 
 -- a test of all, and of some, of one more
 pub all_more : (found : List Finding) (x : Finding) → (list_all is_clean found && is_clean x) ≡ list_all is_clean (found ++ x ∷ [])

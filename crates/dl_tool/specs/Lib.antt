@@ -1,6 +1,13 @@
 pub mod Line
+pub mod Json
+pub mod Told
+pub mod Table
 pub mod Folder
 pub mod Finding
 pub mod Reads
 pub mod Wrap
 pub mod Report
+pub mod List
+pub mod About
+pub mod Copy
+pub mod Stray

@@ -35,7 +35,7 @@ cut_text cut = decimal cut ++ codes " bytes bad"
 abbrev pub IsFindingText : Finding → List ℕ → Type 0
 IsFindingText Absent text = text ≡ codes "no such log"
 IsFindingText (Clean a) text = text ≡ amount_text a ++ codes " clean"
-IsFindingText (Torn a kept cut) text = text ≡ amount_text a ++ kept_text kept ++ cut_text cut
+IsFindingText (Torn a file kept cut) text = text ≡ amount_text a ++ kept_text kept ++ cut_text cut
 IsFindingText (Refused refusal) text = (why : List ℕ) × (text ≡ codes "refused: " ++ why)
 IsFindingText (Unread file) text = text ≡ codes "cannot read " ++ printed_file file
 

@@ -11,14 +11,15 @@ use Rattle.dl_tool.specs.declared.finding.Finding.TheVariants as finding
 use Rattle.dl_tool.specs.declared.line.LogFiles.{LogFiles}
 use Rattle.dl_tool.specs.declared.report.Health.{Health}
 use Rattle.dl_tool.specs.declared.report.Health.TheVariants.{Clean, Unclean, Unread}
+use Rattle.dl_tool.specs.declared.told.Style.{Style}
 use Rattle.dl_tool.specs.Finding.{IsFinding}
-use Rattle.dl_tool.specs.Line.{IsLine}
+use Rattle.dl_tool.specs.Told.{IsTold}
 
 -- a log is clean
 abbrev pub is_clean : Finding → Bool
 is_clean finding.Absent = false
 is_clean (finding.Clean a) = true
-is_clean (finding.Torn a kept cut) = false
+is_clean (finding.Torn a file kept cut) = false
 is_clean (finding.Refused refused) = false
 is_clean (finding.Unread file) = false
 
@@ -26,7 +27,7 @@ is_clean (finding.Unread file) = false
 abbrev pub is_unread : Finding → Bool
 is_unread finding.Absent = false
 is_unread (finding.Clean a) = false
-is_unread (finding.Torn a kept cut) = false
+is_unread (finding.Torn a file kept cut) = false
 is_unread (finding.Refused refused) = false
 is_unread (finding.Unread file) = true
 
@@ -51,15 +52,15 @@ AreFound Z content (log ∷ logs) [] = ⊥
 AreFound Z content (log ∷ logs) (x ∷ xs) = FindsLog Z content log x × AreFound Z content logs xs
 
 -- the lines of what was found of these logs
-abbrev pub AreLines : List LogFiles → List Finding → List ℕ → Type 0
-AreLines [] [] text = text ≡ []
-AreLines [] (x ∷ xs) text = ⊥
-AreLines (log ∷ logs) [] text = ⊥
-AreLines (log ∷ logs) (x ∷ xs) text = (first : List ℕ) × (others : List ℕ) × IsLine log x first × AreLines logs xs others × (text ≡ first ++ others)
+abbrev pub AreLines : Style → List LogFiles → List Finding → List ℕ → Type 0
+AreLines style [] [] text = text ≡ []
+AreLines style [] (x ∷ xs) text = ⊥
+AreLines style (log ∷ logs) [] text = ⊥
+AreLines style (log ∷ logs) (x ∷ xs) text = (first : List ℕ) × (others : List ℕ) × IsTold style log x first × AreLines style logs xs others × (text ≡ first ++ others)
 
 -- the logs were found so, on an honest disk, and their lines are written
-pub record Tells (Z : Type 0) (old new : DiskState) (logs : List LogFiles) (found : List Finding) (written after : Option (List ℕ)) : Type 0 where
+pub record Tells (Z : Type 0) (style : Style) (old new : DiskState) (logs : List LogFiles) (found : List Finding) (written after : Option (List ℕ)) : Type 0 where
   pub finds : IsTrue new.honest → AreFound Z old.content logs found
   pub text : List ℕ
-  pub lines : AreLines logs found text
+  pub lines : AreLines style logs found text
   pub appends : Appends written after text

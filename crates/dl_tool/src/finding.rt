@@ -1,5 +1,5 @@
 // What a check finds of a log.
-use dl_types::{FileName, Refusal};
+use dl_types::{FileName, Refusal, Size};
 use thiserror::Error;
 
 /// How much a log has. Each number stops at the greatest `u64`.
@@ -13,6 +13,8 @@ pub struct Amount {
     pub bytes: u64,
     /// The bytes in all files that are no item's.
     pub bad: u64,
+    /// The size that the log stores. A halt log stores none.
+    pub stored: Option<Size>,
 }
 
 /// What stands of a log that is not open, and what an open to read and write would answer.
@@ -22,8 +24,13 @@ pub enum Finding {
     Absent,
     /// The log is opened as it is.
     Clean(Amount),
-    /// The log is repaired: `kept` items of its last file are kept, and the `cut` bytes after them are cut.
-    Torn { amount: Amount, kept: u64, cut: u64 },
+    /// The log is repaired: `kept` items of `file`, its last one, are kept, and the `cut` bytes after them are cut.
+    Torn {
+        amount: Amount,
+        file: FileName,
+        kept: u64,
+        cut: u64,
+    },
     /// The open is refused.
     Refused(Refusal),
     /// The device failed at this file, so it is not known.

@@ -49,8 +49,8 @@ pub fn logs_named<A: Allocator + Copy>(
     Ok(own)
 }
 
-// The logs that are there by these files.
-fn logs_of<A: Allocator>(alloc: A, names: &[FileName]) -> Result<Vec<LogFiles, A>, AllocError>
+/// The logs that are there by these files.
+pub fn logs_of<A: Allocator>(alloc: A, names: &[FileName]) -> Result<Vec<LogFiles, A>, AllocError>
     ensures { IfOk result (λ logs. logs.items ≡ filter_map log_of names.now) }
 {
     let mut logs = Vec::new(alloc);

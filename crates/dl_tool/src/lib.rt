@@ -1,20 +1,33 @@
 //! What a folder of logs has, read without a change of it.
 #![tactic(auto)]
 
+mod about;
 mod check;
+mod columns;
+mod copy;
 mod finding;
 mod folder;
 mod halt;
+mod json;
 mod law;
 mod length;
 mod line;
+mod list;
 mod mark;
 mod report;
+mod stray;
+mod table;
+mod told;
 mod wrap;
 
+pub use about::describe_log;
 pub use check::check_log;
+pub use copy::{CopyFault, copy_bad};
 pub use finding::{Amount, Finding};
 pub use folder::{find_logs, logs_named};
 pub use law::clean_is_opened;
 pub use line::LogFiles;
+pub use list::list_logs;
 pub use report::{Health, ReportFault, check_logs};
+pub use stray::find_strays;
+pub use told::Style;

@@ -29,8 +29,8 @@ pub fn push_line<A: Allocator + Copy>(
     push_bytes(text, b"\n")
 }
 
-// The word of a kind.
-fn kind_word(kind: Kind) -> &'static str
+/// The word of a kind.
+pub fn kind_word(kind: Kind) -> &'static str
     ensures { result.now ≡ kind_word kind }
 {
     match kind {
@@ -58,7 +58,12 @@ fn push_finding<A: Allocator + Copy>(
     match found {
         Finding::Absent => push_bytes(text, b"no such log"),
         Finding::Clean(amount) => push_clean(text, amount),
-        Finding::Torn { amount, kept, cut } => push_torn(text, amount, kept, cut),
+        Finding::Torn {
+            amount,
+            kept,
+            cut,
+            ..
+        } => push_torn(text, amount, kept, cut),
         Finding::Refused(refusal) => push_refusal(text, refusal),
         Finding::Unread(file) => push_unread(text, file),
     }
@@ -73,6 +78,7 @@ fn push_amount<A: Allocator>(text: &mut Vec<u8, A>, amount: Amount) -> Result<()
         items,
         bytes,
         bad,
+        ..
     } = amount;
     write!(text, "files={files} items={items} bytes={bytes} bad={bad}").map_err(|_| AllocError)
 }
@@ -106,8 +112,8 @@ fn push_kept<A: Allocator>(text: &mut Vec<u8, A>, kept: u64) -> Result<(), Alloc
     write!(text, " needs repair: {kept} items kept, ").map_err(|_| AllocError)
 }
 
-// Adds how many bytes it would cut.
-fn push_cut<A: Allocator>(text: &mut Vec<u8, A>, cut: u64) -> Result<(), AllocError>
+/// Adds how many bytes a repair would cut.
+pub fn push_cut<A: Allocator>(text: &mut Vec<u8, A>, cut: u64) -> Result<(), AllocError>
     ensures { OnOk result (text.new.items ≡ text.old.items ++ cut_text cut) }
 {
     write!(text, "{cut} bytes bad").map_err(|_| AllocError)
@@ -133,8 +139,8 @@ fn push_unread<A: Allocator>(text: &mut Vec<u8, A>, file: FileName) -> Result<()
     write!(text, "cannot read {file}").map_err(|_| AllocError)
 }
 
-// Adds bytes as they are.
-fn push_bytes<A: Allocator>(text: &mut Vec<u8, A>, bytes: &[u8]) -> Result<(), AllocError>
+/// Adds bytes as they are.
+pub fn push_bytes<A: Allocator>(text: &mut Vec<u8, A>, bytes: &[u8]) -> Result<(), AllocError>
     ensures { OnOk result (text.new.items ≡ text.old.items ++ bytes.now) }
 {
     text.extend_from_slice(bytes)

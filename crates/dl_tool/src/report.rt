@@ -1,13 +1,14 @@
-// The logs of a folder are checked, and told line by line.
+// The logs of a folder are checked, and told one by one.
 ghost use Rattle.std.specs.Prelude.{◌≡◌, ◌&&◌, ◌||◌, List, ℕ, IsTrue, IfOk, OnOk};
 ghost use Rattle.std.specs.Io.KnownBytes.{Appends};
 ghost use Rattle.dl_tool.specs.declared.finding.Finding.{Finding};
-ghost use Rattle.dl_tool.specs.Line.{IsLine};
 ghost use Rattle.dl_tool.specs.Report.{health_of, health_by, is_clean, is_unread, FindsLog, Tells};
+ghost use Rattle.dl_tool.specs.Told.{IsTold};
 
 use crate::check::check_log;
 use crate::finding::Finding;
-use crate::line::{LogFiles, push_line};
+use crate::line::LogFiles;
+use crate::told::{Style, push_told};
 use dl_disk::Disk;
 use std::alloc::{AllocError, Allocator};
 use std::io::Write;
@@ -40,64 +41,66 @@ impl From<AllocError> for ReportFault {
     }
 }
 
-/// Checks each of these logs, which are not open, and writes a line for each in their order. Nothing is changed.
+/// Checks each of these logs, which are not open, and tells what it finds of each in their order. Nothing is changed.
 pub fn check_logs<D: Disk, W: Write, A: Allocator + Copy>(
     alloc: A,
     disk: &mut D,
     logs: &[LogFiles],
+    style: Style,
     output: &mut W,
 ) -> Result<Health, ReportFault>
     ensures same { IsTrue (D.state disk.new).honest → (D.state disk.new).content ≡ (D.state disk.old).content }
     ensures stayed { IsTrue (D.state disk.new).honest → IsTrue (D.state disk.old).honest }
     ensures told { IfOk result (λ health. (found : List Finding) × (health ≡ health_of found)
-        × Tells A (D.state disk.old) (D.state disk.new) logs.now found (W.contents output.old) (W.contents output.new)) }
+        × Tells A style (D.state disk.old) (D.state disk.new) logs.now found (W.contents output.old) (W.contents output.new)) }
 {
     let mut tally = Tally {
         clean: true,
         unread: false,
     };
     for log in logs {
-        let found = check_next(alloc, disk, *log, output)?;
+        let found = check_next(alloc, disk, *log, style, output)?;
         tally = tally_with(tally, found);
     }
     Ok(health_by(tally))
 }
 
-// What was found so far: whether each log is clean, and whether some could not be read.
+/// What was found so far: whether each log is clean, and whether some could not be read.
 #[derive(Clone, Copy)]
-struct Tally {
-    clean: bool,
-    unread: bool,
+pub struct Tally {
+    pub clean: bool,
+    pub unread: bool,
 }
 
-// Checks a log and writes its line.
+// Checks a log and tells what it finds.
 fn check_next<D: Disk, W: Write, A: Allocator + Copy>(
     alloc: A,
     disk: &mut D,
     log: LogFiles,
+    style: Style,
     output: &mut W,
 ) -> Result<Finding, ReportFault>
     ensures same { IsTrue (D.state disk.new).honest → (D.state disk.new).content ≡ (D.state disk.old).content }
     ensures stayed { IsTrue (D.state disk.new).honest → IsTrue (D.state disk.old).honest }
     ensures finds { IfOk result (λ found. IsTrue (D.state disk.new).honest → FindsLog A (D.state disk.old).content log found) }
-    ensures line { IfOk result (λ found. (line : List ℕ) × IsLine log found line × Appends (W.contents output.old) (W.contents output.new) line) }
+    ensures line { IfOk result (λ found. (line : List ℕ) × IsTold style log found line × Appends (W.contents output.old) (W.contents output.new) line) }
 {
     let found = check_log(alloc, disk, log.base, log.kind)?;
     let mut text = Vec::new(alloc);
-    push_line(&mut text, log, found)?;
+    push_told(&mut text, style, log, found)?;
     write_text(text.as_slice(), output)?;
     Ok(found)
 }
 
-// Writes a text.
-fn write_text<W: Write>(text: &[u8], output: &mut W) -> Result<(), ReportFault>
+/// Writes a text.
+pub fn write_text<W: Write>(text: &[u8], output: &mut W) -> Result<(), ReportFault>
     ensures { OnOk result (Appends (W.contents output.old) (W.contents output.new) text.now) }
 {
     output.write_all(text).map_err(|_| ReportFault::Write)
 }
 
-// What was found, and one more.
-fn tally_with(tally: Tally, found: Finding) -> Tally
+/// What was found, and one more.
+pub fn tally_with(tally: Tally, found: Finding) -> Tally
     ensures { result ≡ record { clean = tally.clean && is_clean found; unread = tally.unread || is_unread found } }
 {
     Tally {
@@ -106,8 +109,8 @@ fn tally_with(tally: Tally, found: Finding) -> Tally
     }
 }
 
-// How logs stand of which this was found.
-fn health_by(tally: Tally) -> Health
+/// How logs stand of which this was found.
+pub fn health_by(tally: Tally) -> Health
     ensures { result ≡ health_by tally.unread tally.clean }
 {
     match (tally.unread, tally.clean) {

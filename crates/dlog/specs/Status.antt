@@ -1,5 +1,7 @@
 -- The statuses that the program ends with.
 use Rattle.std.specs.Prelude.{ℕ, List, [], ◌∷◌, Option, Some, None, Result, Ok, Err}
+use Rattle.dl_tool.specs.declared.finding.Finding.{Finding}
+use Rattle.dl_tool.specs.declared.finding.Finding.TheVariants as finding
 use Rattle.dl_tool.specs.declared.report.Health.{Health}
 use Rattle.dl_tool.specs.declared.report.Health.TheVariants.{Clean, Unclean, Unread}
 use Rattle.dl_app.specs.declared.fault.ScriptFault.{ScriptFault}
@@ -26,23 +28,33 @@ health_status Clean = 0
 health_status Unclean = 1
 health_status Unread = 3
 
+-- the same of one log
+abbrev pub finding_status : Finding → ℕ
+finding_status finding.Absent = 1
+finding_status (finding.Clean amount) = 0
+finding_status (finding.Torn amount file kept cut) = 1
+finding_status (finding.Refused refusal) = 1
+finding_status (finding.Unread file) = 3
+
 -- 0 where no bytes are bad
 abbrev pub gaps_status : List Gap → ℕ
 gaps_status [] = 0
 gaps_status (gap ∷ gaps) = 1
 
--- 0 where who reads has ended, and 1 where a log was not written out, or lines were not logged, to the end
+-- 0 where who reads has ended, and 1 where a log was not written out, or items were not logged, to the end
 abbrev pub fault_status : PipeFault → ℕ
 fault_status (fault.Refused refusal) = 1
 fault_status fault.Blocked = 1
 fault_status fault.Endless = 1
 fault_status fault.Read = 1
 fault_status fault.TooLong = 1
+fault_status fault.NotEscaped = 1
+fault_status fault.Torn = 1
 fault_status fault.Write = 1
 fault_status fault.ReaderGone = 0
 fault_status fault.OutOfMemory = 1
 
--- 0 where all lines were logged
+-- 0 where all items were logged
 abbrev pub append_status : Option PipeFault → ℕ
 append_status None = 0
 append_status (Some stopped) = 1

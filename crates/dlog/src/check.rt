@@ -1,100 +1,195 @@
-// The command that checks the logs of a folder.
+// The commands that tell of the logs of a folder.
 ghost use Rattle.std.specs.Prelude.{◌≡◌};
 ghost use Rattle.std.specs.Process.{exit_status};
 ghost use Rattle.dlog.specs.Status.{health_status};
 
-use crate::{BUFFER_BYTES, MISUSED, UNCLEAN, UNREAD, open_folder, tell};
+use crate::folder::{folder_word, logs_in, no_name, opened};
+use crate::{BUFFER_BYTES, UNCLEAN, UNREAD, tell};
 use clap::{Arg, ArgAction, ArgMatches, Command};
-use dl_disk::{FolderDisk, ListFault, OpenFault};
-use dl_tool::{Health, LogFiles, ReportFault, check_logs, find_logs, logs_named};
+use dl_disk::{FolderDisk, ListFault};
+use dl_tool::{
+    Health, LogFiles, ReportFault, Style, check_logs, find_strays, list_logs, logs_named,
+};
 use dl_types::Base;
 use std::alloc::{AllocError, Global};
 use std::io;
 use std::io::{BufWriter, Write};
 use std::process::ExitCode;
 
-/// The words of the command.
-pub fn command<'a>(alloc: Global) -> Result<Command<'a>, AllocError> {
-    let folder = Arg::new(alloc, "folder")
-        .value_name("FOLDER")
-        .required(true)
-        .help("The folder of the logs");
-    let names = Arg::new(alloc, "names")
-        .value_name("NAME")
-        .action(ArgAction::Append)
-        .num_args(0..)
-        .help("The bases of the logs to check; all logs of the folder if none is given");
+/// The words of the command that checks logs.
+pub fn check_command<'a>(alloc: Global) -> Result<Command<'a>, AllocError> {
     Command::new(alloc, "check")
         .about("Check the logs of a folder, and change nothing")
         .after_help(
             "A line is told for each log: how much it has, and `clean`, or what an open would do.\nThe status is 0 if all are clean, 1 if one is not, and 3 if one could not be read.\n\nExample: dlog check logs audit",
         )
-        .arg(folder)?
-        .arg(names)
+        .arg(folder_word(alloc))?
+        .arg(names_word(alloc))?
+        .arg(json_word(alloc))
+}
+
+/// The words of the command that lists logs.
+pub fn list_command<'a>(alloc: Global) -> Result<Command<'a>, AllocError> {
+    Command::new(alloc, "list")
+        .about("List the logs of a folder, and change nothing")
+        .after_help(
+            "A row is told for each log, under a head, and a last one for all.\nThe status is that of check.\n\nExample: dlog list logs",
+        )
+        .arg(folder_word(alloc))?
+        .arg(names_word(alloc))?
+        .arg(json_word(alloc))
+}
+
+// The word for the logs.
+fn names_word<'a>(alloc: Global) -> Arg<'a> {
+    Arg::new(alloc, "names")
+        .value_name("NAME")
+        .action(ArgAction::Append)
+        .num_args(0..)
+        .help("The bases of the logs; all logs of the folder if none is given")
+}
+
+/// The word that asks for JSON.
+pub fn json_word<'a>(alloc: Global) -> Arg<'a> {
+    Arg::new(alloc, "json")
+        .long("json")
+        .action(ArgAction::SetTrue)
+        .help("Tell of each log by a JSON object, one a line")
 }
 
 /// Checks the logs that the words name.
-pub fn run(rt: &HostRuntime, options: &ArgMatches<'_>) -> ExitCode {
-    let Some(path) = options.get_str("folder") else {
-        return ExitCode::from(MISUSED);
-    };
-    let mut disk = match open_folder(rt, path) {
-        Ok(disk) => disk,
-        Err(OpenFault::InUse) => {
-            return tell(
-                rt,
-                "another program uses the folder: stop it, or check a copy",
-                UNREAD,
-            );
-        }
-        Err(OpenFault::Device) => return tell(rt, "the folder cannot be read", UNREAD),
-        Err(OpenFault::OutOfMemory) => return tell(rt, ReportFault::OutOfMemory, UNREAD),
-    };
-    let found = match find_logs(rt.alloc(), &mut disk) {
-        Ok(found) => found,
-        Err(ListFault::Device) => return tell(rt, "the folder cannot be listed", UNREAD),
-        Err(ListFault::OutOfMemory) => return tell(rt, ReportFault::OutOfMemory, UNREAD),
-    };
-    match options.get_strs("names") {
-        None => check(rt, &mut disk, &found),
-        Some(names) => check_named(rt, &mut disk, &found, names),
+pub fn check(rt: &HostRuntime, options: &ArgMatches<'_>) -> ExitCode {
+    match try_check(rt, options, style_in(options)) {
+        Ok(status) | Err(status) => status,
     }
 }
 
-// Checks the logs of these bases.
-fn check_named(
+/// Lists the logs that the words name.
+pub fn list(rt: &HostRuntime, options: &ArgMatches<'_>) -> ExitCode {
+    let listed = match style_in(options) {
+        Style::Line => try_list(rt, options),
+        Style::Json => try_check(rt, options, Style::Json),
+    };
+    match listed {
+        Ok(status) | Err(status) => status,
+    }
+}
+
+// How the words ask to be told.
+fn style_in(options: &ArgMatches<'_>) -> Style {
+    if options.get_flag("json") {
+        Style::Json
+    } else {
+        Style::Line
+    }
+}
+
+// Checks the logs, or tells why the words do not name any.
+fn try_check(
+    rt: &HostRuntime,
+    options: &ArgMatches<'_>,
+    style: Style,
+) -> Result<ExitCode, ExitCode> {
+    let mut disk = opened(rt, options)?;
+    let logs = logs_asked(rt, options, &mut disk)?;
+    let status = check_these(rt, &mut disk, &logs, style)?;
+    if options.get_strs("names").is_none() {
+        tell_strays(rt, &mut disk, style)?;
+    }
+    Ok(status)
+}
+
+// Tells of the numbered files of a folder that no index names.
+fn tell_strays(
     rt: &HostRuntime,
     disk: &mut FolderDisk<HostRuntime>,
+    style: Style,
+) -> Result<(), ExitCode> {
+    let strays = match find_strays(rt.alloc(), disk) {
+        Ok(strays) => strays,
+        Err(ListFault::Device) => return Err(tell(rt, "the folder cannot be listed", UNREAD)),
+        Err(ListFault::OutOfMemory) => return Err(tell(rt, ReportFault::OutOfMemory, UNREAD)),
+    };
+    for file in &strays {
+        let told = match style {
+            Style::Line => println!(rt; "{file} stray: no index names it"),
+            Style::Json => println!(rt; "{{\"file\":\"{file}\",\"state\":\"stray\"}}"),
+        };
+        if told.is_err() {
+            return Err(tell(rt, ReportFault::Write, UNREAD));
+        }
+    }
+    Ok(())
+}
+
+/// Checks these logs.
+pub fn check_these(
+    rt: &HostRuntime,
+    disk: &mut FolderDisk<HostRuntime>,
+    logs: &[LogFiles],
+    style: Style,
+) -> Result<ExitCode, ExitCode> {
+    let Ok(mut output) = BufWriter::with_capacity(rt.alloc(), BUFFER_BYTES, io::writer(rt)) else {
+        return Err(tell(rt, ReportFault::OutOfMemory, UNREAD));
+    };
+    let checked = check_logs(rt.alloc(), disk, logs, style, &mut output);
+    let is_written = output.flush().is_ok();
+    Ok(end(rt, checked, is_written))
+}
+
+// Lists the logs, or tells why the words do not name any.
+fn try_list(rt: &HostRuntime, options: &ArgMatches<'_>) -> Result<ExitCode, ExitCode> {
+    let mut disk = opened(rt, options)?;
+    let logs = logs_asked(rt, options, &mut disk)?;
+    let Ok(mut output) = BufWriter::with_capacity(rt.alloc(), BUFFER_BYTES, io::writer(rt)) else {
+        return Err(tell(rt, ReportFault::OutOfMemory, UNREAD));
+    };
+    let listed = list_logs(rt.alloc(), &mut disk, &logs, &mut output);
+    let is_written = output.flush().is_ok();
+    Ok(end(rt, listed, is_written))
+}
+
+// The logs that the words name: those of these bases, or all of the folder.
+fn logs_asked(
+    rt: &HostRuntime,
+    options: &ArgMatches<'_>,
+    disk: &mut FolderDisk<HostRuntime>,
+) -> Result<Vec<LogFiles>, ExitCode> {
+    let found = logs_in(rt, disk)?;
+    match options.get_strs("names") {
+        None => Ok(found),
+        Some(names) => logs_of(rt, &found, names),
+    }
+}
+
+// The logs of these that have one of these bases.
+fn logs_of(
+    rt: &HostRuntime,
     found: &[LogFiles],
     names: &[&str],
-) -> ExitCode {
+) -> Result<Vec<LogFiles>, ExitCode> {
     let mut logs = Vec::new(rt.alloc());
     for name in names {
         let Some(base) = Base::parse(name.as_bytes()) else {
-            return tell(rt, format_args!("no log can be called {name:?}"), MISUSED);
+            return Err(no_name(rt, name));
         };
         let added = match logs_named(rt.alloc(), found, base) {
             Ok(own) => logs.extend_from_slice(&own),
             Err(error) => Err(error),
         };
         if added.is_err() {
-            return tell(rt, ReportFault::OutOfMemory, UNREAD);
+            return Err(tell(rt, ReportFault::OutOfMemory, UNREAD));
         }
     }
-    check(rt, disk, &logs)
+    Ok(logs)
 }
 
-// Checks these logs.
-fn check(rt: &HostRuntime, disk: &mut FolderDisk<HostRuntime>, logs: &[LogFiles]) -> ExitCode {
-    let alloc = rt.alloc();
-    let Ok(mut output) = BufWriter::with_capacity(alloc, BUFFER_BYTES, io::writer(rt)) else {
-        return tell(rt, ReportFault::OutOfMemory, UNREAD);
-    };
-    let checked = check_logs(alloc, disk, logs, &mut output);
-    if output.flush().is_err() {
+// Says what became of a report, unless all was told.
+fn end(rt: &HostRuntime, told: Result<Health, ReportFault>, is_written: bool) -> ExitCode {
+    if !is_written {
         return tell(rt, ReportFault::Write, UNREAD);
     }
-    match checked {
+    match told {
         Ok(health) => status_of(health),
         Err(fault) => tell(rt, fault, UNREAD),
     }

@@ -1,10 +1,34 @@
-// The folder of a command, and the log in it.
+// The folder of a command, and the logs in it.
 use crate::{MISUSED, UNREAD, open_folder, tell};
-use clap::ArgMatches;
+use clap::{Arg, ArgMatches};
 use dl_disk::{FolderDisk, ListFault, OpenFault};
-use dl_tool::{find_logs, logs_named};
+use dl_tool::{LogFiles, find_logs, logs_named};
 use dl_types::{Base, Kind, Name};
+use std::alloc::Global;
 use std::process::ExitCode;
+
+/// The word for the folder.
+pub fn folder_word<'a>(alloc: Global) -> Arg<'a> {
+    Arg::new(alloc, "folder")
+        .value_name("FOLDER")
+        .required(true)
+        .help("The folder of the logs, which has to be there")
+}
+
+/// The word for a log of the folder.
+pub fn name_word<'a>(alloc: Global) -> Arg<'a> {
+    Arg::new(alloc, "name")
+        .value_name("NAME")
+        .required(true)
+        .help("The name of the log")
+}
+
+/// The word for the kind of a log.
+pub fn kind_word<'a>(alloc: Global) -> Arg<'a> {
+    Arg::new(alloc, "kind").long("kind").value_name("KIND").help(
+        "halt or wrap, where the folder has a log of each kind with this name",
+    )
+}
 
 /// The disk over the folder that the words name, or the status after it was told what is wrong with it.
 pub fn opened(
@@ -33,32 +57,79 @@ pub fn named(rt: &HostRuntime, options: &ArgMatches<'_>) -> Result<Name, ExitCod
     };
     match Name::parse(name.as_bytes()) {
         Some(log) => Ok(log),
-        None => Err(tell(
+        None => Err(no_name(rt, name)),
+    }
+}
+
+/// Says that no log can have this name.
+pub fn no_name(rt: &HostRuntime, name: &str) -> ExitCode {
+    tell(
+        rt,
+        format_args!(
+            "no log can be called {name:?}: a name has 1 to 64 letters, digits, `_` and `-`"
+        ),
+        MISUSED,
+    )
+}
+
+/// The logs of a folder.
+pub fn logs_in(
+    rt: &HostRuntime,
+    disk: &mut FolderDisk<HostRuntime>,
+) -> Result<Vec<LogFiles>, ExitCode> {
+    match find_logs(rt.alloc(), disk) {
+        Ok(found) => Ok(found),
+        Err(ListFault::Device) => Err(tell(rt, "the folder cannot be listed", UNREAD)),
+        Err(ListFault::OutOfMemory) => Err(tell(rt, "out of memory", UNREAD)),
+    }
+}
+
+/// The kinds of the logs of this name that the folder has; that of a halt log if it has none.
+fn kinds_of(
+    rt: &HostRuntime,
+    disk: &mut FolderDisk<HostRuntime>,
+    log: Name,
+) -> Result<Vec<Kind>, ExitCode> {
+    let found = logs_in(rt, disk)?;
+    let own = match logs_named(rt.alloc(), &found, Base::of(log)) {
+        Ok(own) => own,
+        Err(error) => return Err(tell(rt, error, UNREAD)),
+    };
+    match own.iter().map(|files| files.kind).collect(rt.alloc()) {
+        Ok(kinds) => Ok(kinds),
+        Err(error) => Err(tell(rt, error, UNREAD)),
+    }
+}
+
+/// The kind of the log of this name that the folder has, and halt if it has none. If it has one of each kind, `what` is to be
+/// said.
+pub fn kind_there(
+    rt: &HostRuntime,
+    disk: &mut FolderDisk<HostRuntime>,
+    log: Name,
+    what: &str,
+) -> Result<Kind, ExitCode> {
+    match kinds_of(rt, disk, log)?.as_slice() {
+        [kind] => Ok(*kind),
+        _ => Err(tell(
             rt,
-            format_args!(
-                "no log can be called {name:?}: a name has 1 to 64 letters, digits, `_` and `-`"
-            ),
+            format_args!("{log}: there is a halt log and a wrap log: say {what}"),
             MISUSED,
         )),
     }
 }
 
-/// The kinds of the logs of this name that the folder has; that of a halt log if it has none.
-pub fn kinds_of(
+/// The kind that the words name, or else that of the log of this name.
+pub fn kind_in(
     rt: &HostRuntime,
+    options: &ArgMatches<'_>,
     disk: &mut FolderDisk<HostRuntime>,
     log: Name,
-) -> Result<Vec<Kind>, ExitCode> {
-    let found = match find_logs(rt.alloc(), disk) {
-        Ok(found) => found,
-        Err(ListFault::Device) => return Err(tell(rt, "the folder cannot be listed", UNREAD)),
-        Err(ListFault::OutOfMemory) => return Err(tell(rt, "out of memory", UNREAD)),
-    };
-    let Ok(own) = logs_named(rt.alloc(), &found, Base::of(log)) else {
-        return Err(tell(rt, "out of memory", UNREAD));
-    };
-    match own.iter().map(|files| files.kind).collect(rt.alloc()) {
-        Ok(kinds) => Ok(kinds),
-        Err(_) => Err(tell(rt, "out of memory", UNREAD)),
+) -> Result<Kind, ExitCode> {
+    match options.get_str("kind") {
+        Some("halt") => Ok(Kind::Halt),
+        Some("wrap") => Ok(Kind::Wrap),
+        Some(_) => Err(tell(rt, "--kind is halt or wrap", MISUSED)),
+        None => kind_there(rt, disk, log, "--kind halt or --kind wrap"),
     }
 }

@@ -1,4 +1,5 @@
-//! The program: a script of calls on standard input, and its answers on standard output; a check of a folder; the items of a log; and lines that are logged.
+//! The program: a script of calls on standard input, and its answers on standard output; what the logs of a folder are, and a
+//! repair; the items of a log; and lines that are logged.
 #![tactic(auto)]
 
 ghost use Rattle.std.specs.Prelude.{◌≡◌};
@@ -9,6 +10,8 @@ mod append;
 mod check;
 mod dump;
 mod folder;
+mod info;
+mod repair;
 
 use anyhow::Result;
 use clap::error::ErrorKind;
@@ -49,19 +52,23 @@ fn main(rt: HostRuntime) -> Result<ExitCode> {
         Ok(matches) => matches,
         Err(error) => return Ok(show(&rt, &error)),
     };
-    if let Some(options) = matches.subcommand_matches("check") {
-        return Ok(check::run(&rt, options));
+    match matches.subcommand() {
+        Some((name, options)) => Ok(run_command(&rt, name, options)),
+        None => Ok(ExitCode::from(MISUSED)),
     }
-    if let Some(options) = matches.subcommand_matches("append") {
-        return Ok(append::run(&rt, options));
+}
+
+// Runs the command of this name.
+fn run_command(rt: &HostRuntime, name: &str, options: &ArgMatches<'_>) -> ExitCode {
+    match name {
+        "check" => check::check(rt, options),
+        "list" => check::list(rt, options),
+        "info" => info::run(rt, options),
+        "repair" => repair::run(rt, options),
+        "append" => append::run(rt, options),
+        "dump" => dump::run(rt, options),
+        _ => run(rt, options),
     }
-    if let Some(options) = matches.subcommand_matches("dump") {
-        return Ok(dump::run(&rt, options));
-    }
-    let Some(options) = matches.subcommand_matches("run") else {
-        return Ok(ExitCode::from(MISUSED));
-    };
-    Ok(run(&rt, options))
 }
 
 // Shows what was asked for, as the help, or what is wrong with the words.
@@ -98,7 +105,10 @@ fn command<'a>(alloc: Global) -> Result<Command<'a>, AllocError> {
         .about("A server of logs that keep their items in order and give them back in chunks")
         .subcommand_required(true)
         .subcommand(run)?
-        .subcommand(check::command(alloc)?)?
+        .subcommand(check::check_command(alloc)?)?
+        .subcommand(check::list_command(alloc)?)?
+        .subcommand(info::command(alloc)?)?
+        .subcommand(repair::command(alloc)?)?
         .subcommand(dump::command(alloc)?)?
         .subcommand(append::command(alloc)?)
 }

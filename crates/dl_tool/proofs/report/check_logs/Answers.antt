@@ -17,7 +17,7 @@ loop-log-init g c = record {
   found = [];
   clean = refl;
   unread = refl;
-  told = tells_none g.row.A.Denot (g.D.Disk.state c.args.disk.now) (g.W.Write.contents c.args.output.now);
+  told = tells_none g.row.A.Denot c.args.style (g.D.Disk.state c.args.disk.now) (g.W.Write.contents c.args.output.now);
 }
 
 pub loop-log-preserved : goal.loop-log-preserved
@@ -33,7 +33,7 @@ loop-log-preserved g c =
       found = so_far.found ++ x ∷ [];
       clean = ap (λ (t : Tally). t.clean) c.tally_with-tally.ensures ∙ ap (λ (b : Bool). b && is_clean x) so_far.clean ∙ all_more so_far.found x;
       unread = ap (λ (t : Tally). t.unread) c.tally_with-tally.ensures ∙ ap (λ (b : Bool). b || is_unread x) so_far.unread ∙ any_more so_far.found x;
-      told = subst (λ (ls : List LogFiles). Tells g.row.A.Denot (state c.args.disk.now) (state c.check_next.new.disk) ls (so_far.found ++ x ∷ []) (g.W.Write.contents c.args.output.now) (g.W.Write.contents c.check_next.new.output))
+      told = subst (λ (ls : List LogFiles). Tells g.row.A.Denot c.args.style (state c.args.disk.now) (state c.check_next.new.disk) ls (so_far.found ++ x ∷ []) (g.W.Write.contents c.args.output.now) (g.W.Write.contents c.check_next.new.output))
           (sym (take_more c.args.logs.now c.loop-log.log-index _ c.loop-log-test.true))
-          (tells_more g.row.A.Denot (state c.args.disk.now) (state c.loop-log.disk) (state c.check_next.new.disk) _ so_far.found _ x _ _ _ c.check_next.ensures.stayed so_far.same so_far.told one.finds line.0 line.1 line.2);
+          (tells_more g.row.A.Denot c.args.style (state c.args.disk.now) (state c.loop-log.disk) (state c.check_next.new.disk) _ so_far.found _ x _ _ _ c.check_next.ensures.stayed so_far.same so_far.told one.finds line.0 line.1 line.2);
     }

@@ -12,5 +12,5 @@ invariant-loop-log g l = record {
   found : List Finding;
   clean : l.tally.clean ≡ list_all is_clean found;
   unread : l.tally.unread ≡ list_any is_unread found;
-  told : Tells g.row.A.Denot (g.D.Disk.state l.fn.disk) (g.D.Disk.state l.disk) (take l.log-index l.logs) found (g.W.Write.contents l.fn.output) (g.W.Write.contents l.output);
+  told : Tells g.row.A.Denot l.style (g.D.Disk.state l.fn.disk) (g.D.Disk.state l.disk) (take l.log-index l.logs) found (g.W.Write.contents l.fn.output) (g.W.Write.contents l.output);
 }

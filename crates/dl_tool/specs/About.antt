@@ -1,0 +1,53 @@
+-- What is found of a log, a field a line.
+use Rattle.std.specs.Prelude.{◌≡◌, ℕ, List, [], ◌∷◌, ◌++◌, Option, Some, None, codes}
+use Rattle.std.specs.Fmt.{decimal}
+use Rattle.dl_types.specs.declared.size.Size.{Size}
+use Rattle.dl_types.specs.Name.{base_text}
+use Rattle.dl_types.specs.Printed.{characters_of, printed_file, size_text}
+use Rattle.dl_tool.specs.declared.finding.Amount.{Amount}
+use Rattle.dl_tool.specs.declared.finding.Finding.{Finding}
+use Rattle.dl_tool.specs.declared.finding.Finding.TheVariants.{Absent, Clean, Torn, Refused, Unread}
+use Rattle.dl_tool.specs.declared.line.LogFiles.{LogFiles}
+use Rattle.dl_tool.specs.Line.{kind_word, cut_text}
+
+-- a line: what is told, and what it is
+abbrev pub field : List ℕ → List ℕ → List ℕ
+field key text = key ++ codes ": " ++ text ++ 10 ∷ []
+
+-- the log
+abbrev pub log_fields : LogFiles → List ℕ
+log_fields log = field (codes "name") (characters_of (base_text log.base)) ++ field (codes "kind") (kind_word log.kind)
+
+-- the size that is stored, if there is one
+abbrev pub size_field : Option Size → List ℕ
+size_field None = []
+size_field (Some size) = field (codes "size") (size_text size)
+
+-- how much a log has
+abbrev pub count_fields : Amount → List ℕ
+count_fields a = field (codes "files") (decimal a.files) ++ field (codes "items") (decimal a.items) ++ field (codes "bytes") (decimal a.bytes) ++ field (codes "bad") (decimal a.bad)
+
+abbrev pub amount_fields : Amount → List ℕ
+amount_fields a = size_field a.stored ++ count_fields a
+
+abbrev pub state_field : List ℕ → List ℕ
+state_field text = field (codes "state") text
+
+-- what a repair would keep and cut
+abbrev pub keeps_text : ℕ → List ℕ
+keeps_text kept = codes "needs repair: " ++ decimal kept ++ codes " items kept, "
+
+abbrev pub repair_text : ℕ → ℕ → List ℕ
+repair_text kept cut = keeps_text kept ++ cut_text cut
+
+-- lines say what was found, behind the log; which text says a refusal is left open here
+abbrev pub IsStateText : Finding → List ℕ → Type 0
+IsStateText Absent text = text ≡ state_field (codes "no such log")
+IsStateText (Clean a) text = text ≡ amount_fields a ++ state_field (codes "clean")
+IsStateText (Torn a file kept cut) text = text ≡ amount_fields a ++ state_field (repair_text kept cut)
+IsStateText (Refused refusal) text = (why : List ℕ) × (text ≡ state_field (codes "refused: " ++ why))
+IsStateText (Unread file) text = text ≡ state_field (codes "cannot read " ++ printed_file file)
+
+-- the lines of what was found of a log
+abbrev pub IsInfo : LogFiles → Finding → List ℕ → Type 0
+IsInfo log found text = (said : List ℕ) × IsStateText found said × (text ≡ log_fields log ++ said)

@@ -1,0 +1,56 @@
+-- What is found of a log, as a JSON object on a line of its own. No name, file or refusal has a byte that JSON escapes: bases are letters, digits, `_` and `-`.
+use Rattle.std.specs.Prelude.{◌≡◌, ℕ, List, [], ◌∷◌, ◌++◌, Option, Some, None, codes}
+use Rattle.std.specs.Fmt.{decimal}
+use Rattle.dl_types.specs.declared.size.Size.{Size}
+use Rattle.dl_types.specs.Name.{base_text}
+use Rattle.dl_types.specs.Printed.{characters_of, printed_file, size_text}
+use Rattle.dl_tool.specs.declared.finding.Amount.{Amount}
+use Rattle.dl_tool.specs.declared.finding.Finding.{Finding}
+use Rattle.dl_tool.specs.declared.finding.Finding.TheVariants.{Absent, Clean, Torn, Refused, Unread}
+use Rattle.dl_tool.specs.declared.line.LogFiles.{LogFiles}
+use Rattle.dl_tool.specs.Line.{kind_word}
+
+-- the front of an object: the log
+abbrev pub json_log : LogFiles → List ℕ
+json_log log = codes "{\"name\":\"" ++ characters_of (base_text log.base) ++ codes "\",\"kind\":\"" ++ kind_word log.kind ++ codes "\""
+
+-- the size that is stored, if there is one
+abbrev pub json_size : Option Size → List ℕ
+json_size None = []
+json_size (Some size) = codes ",\"size\":\"" ++ size_text size ++ codes "\""
+
+-- the state of a log
+abbrev pub json_state : List ℕ → List ℕ
+json_state state = codes ",\"state\":\"" ++ state ++ codes "\""
+
+-- how much a log has
+abbrev pub json_counts : Amount → List ℕ
+json_counts a = codes ",\"files\":" ++ decimal a.files ++ codes ",\"items\":" ++ decimal a.items ++ codes ",\"bytes\":" ++ decimal a.bytes ++ codes ",\"bad\":" ++ decimal a.bad
+
+-- a log in this state that has so much
+abbrev pub json_amount : List ℕ → Amount → List ℕ
+json_amount state a = json_size a.stored ++ json_state state ++ json_counts a
+
+-- what a repair would do
+abbrev pub json_repair : ℕ → ℕ → List ℕ
+json_repair kept cut = codes ",\"kept\":" ++ decimal kept ++ codes ",\"cut\":" ++ decimal cut
+
+-- the text of a field, the last of an object
+abbrev pub json_field : List ℕ → List ℕ → List ℕ
+json_field key text = codes ",\"" ++ key ++ codes "\":\"" ++ text ++ codes "\""
+
+-- a text says what was found, behind the log; which text says a refusal is left open here
+abbrev pub IsJsonText : Finding → List ℕ → Type 0
+IsJsonText Absent text = text ≡ json_state (codes "absent")
+IsJsonText (Clean a) text = text ≡ json_amount (codes "clean") a
+IsJsonText (Torn a file kept cut) text = text ≡ json_amount (codes "needs repair") a ++ json_repair kept cut
+IsJsonText (Refused refusal) text = (why : List ℕ) × (text ≡ json_state (codes "refused") ++ json_field (codes "why") why)
+IsJsonText (Unread file) text = text ≡ json_state (codes "unread") ++ json_field (codes "file") (printed_file file)
+
+-- the end of an object, and of its line
+abbrev pub json_end : List ℕ
+json_end = codes "}" ++ 10 ∷ []
+
+-- the object of what was found of a log
+abbrev pub IsJson : LogFiles → Finding → List ℕ → Type 0
+IsJson log found line = (said : List ℕ) × IsJsonText found said × (line ≡ json_log log ++ said ++ json_end)
