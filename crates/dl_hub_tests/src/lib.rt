@@ -1,10 +1,8 @@
-//! Tests of the hub, of scripts and of the check of a folder, that need their public calls alone.
+//! Tests of the hub and of scripts, that need their public calls alone.
 #![tactic(auto)]
 
 #[cfg(test)]
 mod app;
-#[cfg(test)]
-mod check;
 #[cfg(test)]
 mod hub;
 #[cfg(test)]

@@ -123,10 +123,12 @@ fn heard_alone<'a>(step: Step<'a>, log: &'a str) -> Step<'a> {
     }
 }
 
-// Whether a step is a log's own, after these steps. What is no line stays.
+// Whether a step is a log's own, after these steps. What says how a hub begins stays, and commands go.
 fn is_own(before: &[Step<'_>], step: Step<'_>, log: &str) -> bool {
-    let Step::Line(line) = step else {
-        return true;
+    let line = match step {
+        Step::Line(line) => line,
+        Step::Tool(_) | Step::Input(_) | Step::Told(_) => return false,
+        _ => return true,
     };
     match deed_of(line) {
         Deed::Call { log: called, .. } => called == log,

@@ -2,7 +2,7 @@
 use crate::fault::CaseFault;
 use dl_disk::Fuse;
 use dl_types::{Base, FileName};
-use std::alloc::{AllocError, Global};
+use std::alloc::Global;
 
 // The numbers of blocks that a case is run with if it names none.
 const BLOCKS: &str = "1 2 16";
@@ -37,6 +37,15 @@ pub struct Failure {
     pub fuse: Fuse,
 }
 
+/// A command on the files that a hub leaves.
+#[derive(Clone, Copy)]
+pub struct Tool<'a> {
+    /// The number of the line in the case's file, counted from 1.
+    pub number: u64,
+    pub verb: &'a str,
+    pub others: &'a str,
+}
+
 /// What a case does next.
 #[derive(Clone, Copy)]
 pub enum Step<'a> {
@@ -45,6 +54,12 @@ pub enum Step<'a> {
     File(LaidFile<'a>),
     Fail(Failure),
     Line(Line<'a>),
+    /// The hub ends, and a command is used on its files.
+    Tool(Tool<'a>),
+    /// A line of the command's standard input.
+    Input(&'a str),
+    /// A line that the command is to tell.
+    Told(&'a str),
     /// The device no longer fails, and the next line begins a new script.
     Mend,
     /// The hub ends, and a new one begins on the same files.
@@ -59,75 +74,89 @@ enum Form<'a> {
     Answer(&'a str),
     // What the runner is to do.
     Order(&'a str),
+    // A line of a command's standard input.
+    Input(&'a str),
     Script(&'a str),
 }
 
-// A line of the script that has no answer yet, and its number.
-type Asked<'a> = Option<(u64, &'a str)>;
+// What the next line may belong to.
+#[derive(Clone, Copy)]
+enum Asked<'a> {
+    Nothing,
+    // A line of the script that has no answer yet, and its number.
+    Line(u64, &'a str),
+    // A command, whose input and answers may go on.
+    Tool,
+}
 
 /// Reads the text of a case.
 pub fn steps_of(alloc: Global, text: &str) -> Result<Vec<Step<'_>>, CaseFault> {
     let mut steps = Vec::new(alloc);
-    let mut asked = None;
+    let mut asked = Asked::Nothing;
     let mut number = 0u64;
     for line in text.lines() {
         number = number.saturating_add(1);
         asked = take_line(&mut steps, number, line, asked)?;
     }
     match asked {
-        None => Ok(steps),
-        Some((number, _)) => Err(CaseFault::NoAnswer(number)),
+        Asked::Line(number, _) => Err(CaseFault::NoAnswer(number)),
+        Asked::Nothing | Asked::Tool => Ok(steps),
     }
 }
 
-// Takes a line, after the script line that still has no answer. Gives the one that has none then.
+// Takes a line after what was asked before it. Gives what is asked then.
 fn take_line<'a>(
     steps: &mut Vec<Step<'a>>,
     number: u64,
     line: &'a str,
     asked: Asked<'a>,
 ) -> Result<Asked<'a>, CaseFault> {
-    match form_of(line) {
-        Form::Comment => Ok(asked),
-        Form::Answer(answer) => {
-            let (number, text) = asked.ok_or(CaseFault::NoLine(number))?;
+    match (form_of(line), asked) {
+        (Form::Comment, asked) => Ok(asked),
+        (Form::Answer(answer), Asked::Line(number, text)) => {
             let line = Line {
                 number,
                 text,
                 answer,
                 alone: None,
             };
-            push(steps, Step::Line(line))?;
-            Ok(None)
+            push(steps, Step::Line(line), Asked::Nothing)
         }
-        Form::Script(text) => {
-            all_answered(asked)?;
-            Ok(Some((number, text)))
-        }
-        Form::Order(words) => {
-            all_answered(asked)?;
-            let step = order_of(words).ok_or(CaseFault::BadOrder(number))?;
-            if is_late(steps.as_slice(), step) {
-                return Err(CaseFault::LateOrder(number));
-            }
-            push(steps, step)?;
-            Ok(None)
-        }
+        (Form::Answer(answer), Asked::Tool) => push(steps, Step::Told(answer), Asked::Tool),
+        (Form::Input(text), Asked::Tool) => push(steps, Step::Input(text), Asked::Tool),
+        (Form::Answer(_) | Form::Input(_), _) => Err(CaseFault::NoLine(number)),
+        (_, Asked::Line(number, _)) => Err(CaseFault::NoAnswer(number)),
+        (Form::Script(text), Asked::Nothing) => Ok(Asked::Line(number, text)),
+        (Form::Script(_), Asked::Tool) => Err(CaseFault::LateLine(number)),
+        (Form::Order(words), asked) => take_order(steps, number, words, asked),
     }
 }
 
-// Adds a step.
-fn push<'a>(steps: &mut Vec<Step<'a>>, step: Step<'a>) -> Result<(), AllocError> {
+// Takes an order after what was asked before it. Gives what is asked then.
+fn take_order<'a>(
+    steps: &mut Vec<Step<'a>>,
+    number: u64,
+    words: &'a str,
+    asked: Asked<'a>,
+) -> Result<Asked<'a>, CaseFault> {
+    let step = order_of(words, number).ok_or(CaseFault::BadOrder(number))?;
+    match (step, asked) {
+        (Step::Tool(_), _) => push(steps, step, Asked::Tool),
+        (Step::Again, _) => push(steps, step, Asked::Nothing),
+        (_, Asked::Tool) => Err(CaseFault::LateOrder(number)),
+        _ if is_late(steps.as_slice(), step) => Err(CaseFault::LateOrder(number)),
+        _ => push(steps, step, Asked::Nothing),
+    }
+}
+
+// Adds a step, after which this is asked.
+fn push<'a>(
+    steps: &mut Vec<Step<'a>>,
+    step: Step<'a>,
+    asked: Asked<'a>,
+) -> Result<Asked<'a>, CaseFault> {
     steps.push(step)?;
-    Ok(())
-}
-
-// Refuses a case in which a script line has no answer.
-fn all_answered(asked: Asked<'_>) -> Result<(), CaseFault> {
-    match asked {
-        None => Ok(()),
-        Some((number, _)) => Err(CaseFault::NoAnswer(number)),
-    }
+    Ok(asked)
 }
 
 // The form of a line.
@@ -135,28 +164,29 @@ fn form_of(line: &str) -> Form<'_> {
     if line.is_empty() || line.starts_with('#') {
         return Form::Comment;
     }
-    match (line.strip_prefix("= "), line.strip_prefix("! ")) {
-        (Some(answer), _) => Form::Answer(answer),
-        (None, Some(words)) => Form::Order(words),
-        (None, None) => Form::Script(line),
+    match line.split_once(' ') {
+        Some(("=", answer)) => Form::Answer(answer),
+        Some(("!", words)) => Form::Order(words),
+        Some((">", text)) => Form::Input(text),
+        _ => Form::Script(line),
     }
 }
 
 // The order that these words are, if they are one.
-fn order_of(text: &str) -> Option<Step<'_>> {
+fn order_of(text: &str, number: u64) -> Option<Step<'_>> {
     let (order, others) = text.split_once(' ').unwrap_or((text, ""));
-    if order == "blocks" {
-        Some(Step::Blocks(others))
-    } else if order == "file" {
-        Some(Step::File(file_of(others)?))
-    } else if order == "fail" {
-        Some(Step::Fail(failure_of(others)?))
-    } else if text == "mend" {
-        Some(Step::Mend)
-    } else if text == "again" {
-        Some(Step::Again)
-    } else {
-        None
+    match order {
+        "blocks" => Some(Step::Blocks(others)),
+        "file" => Some(Step::File(file_of(others)?)),
+        "fail" => Some(Step::Fail(failure_of(others)?)),
+        "mend" => Some(Step::Mend),
+        "again" => Some(Step::Again),
+        "append" | "check" | "dump" | "info" | "list" | "repair" => Some(Step::Tool(Tool {
+            number,
+            verb: order,
+            others,
+        })),
+        _ => None,
     }
 }
 
@@ -194,7 +224,7 @@ fn is_late(steps: &[Step<'_>], step: Step<'_>) -> bool {
             let begun = steps.iter().rev().find(|step| !is_setting(**step));
             begun.is_some_and(|step| !matches!(step, Step::Again))
         }
-        Step::Line(_) | Step::Mend | Step::Again => false,
+        _ => false,
     }
 }
 
@@ -221,7 +251,7 @@ pub fn blocks_of(alloc: Global, steps: &[Step<'_>]) -> Result<Vec<u32>, CaseFaul
 pub fn count_answers(steps: &[Step<'_>]) -> u64 {
     steps
         .iter()
-        .filter(|step| matches!(step, Step::Line(_)))
+        .filter(|step| matches!(step, Step::Line(_) | Step::Told(_)))
         .count() as u64
 }
 

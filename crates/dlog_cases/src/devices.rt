@@ -1,9 +1,11 @@
 // A case over the disk in memory, behind a fuse, and over a folder.
 use crate::alone::{alone, private_logs};
 use crate::answer::bytes_of;
-use crate::case::Step;
+use crate::case::{Step, Tool};
 use crate::fault::{CaseFault, How};
 use crate::script::run_lines;
+use crate::told::{compare_told, input_of};
+use crate::tools::use_tool;
 use dl_disk::{FolderDisk, Fuse, FuseDisk, MemoryDisk, OpenFault};
 use dl_hub::Hub;
 use std::alloc::Global;
@@ -77,7 +79,47 @@ fn live_in_memory(
     let files = laid(alloc, files, life)?;
     let disk = fused(alloc, files, life);
     let mut hub = Hub::new(alloc, disk, trial.blocks).map_err(CaseFault::Hub)?;
-    run_scripts(alloc, &mut hub, life, trial)
+    let left = run_scripts(alloc, &mut hub, life, trial)?;
+    use_in_memory(alloc, left, life, trial)
+}
+
+// Uses the commands among the steps of a hub on the files that it leaves. Gives the files that they leave.
+fn use_in_memory(
+    alloc: Global,
+    files: MemoryDisk,
+    life: &[Step<'_>],
+    trial: &mut Trial,
+) -> Result<MemoryDisk, CaseFault> {
+    let mut files = files;
+    for (at, step) in life.iter().enumerate() {
+        if let Step::Tool(tool) = step {
+            let after = life.get(at + 1..).unwrap_or(&[]);
+            files = use_one_in_memory(alloc, files, *tool, after, trial)?;
+        }
+    }
+    Ok(files)
+}
+
+// Uses a command, after which these steps stand.
+fn use_one_in_memory(
+    alloc: Global,
+    files: MemoryDisk,
+    tool: Tool<'_>,
+    after: &[Step<'_>],
+    trial: &mut Trial,
+) -> Result<MemoryDisk, CaseFault> {
+    let mut output = Vec::new(alloc);
+    let input = input_of(alloc, after)?;
+    let hub = use_tool(
+        alloc,
+        files,
+        trial.blocks,
+        tool,
+        input.as_str(),
+        &mut output,
+    )?;
+    compare_told(alloc, tool, after, output.as_slice(), &mut trial.told)?;
+    Ok(hub.disk().copy()?)
 }
 
 // A copy of these files, and with it those that the steps lay down.
@@ -180,9 +222,42 @@ fn live_in_folder(
     path: Path<'_>,
     trial: &mut Trial,
 ) -> Result<(), CaseFault> {
+    run_in_hub(rt, life, path, trial)?;
+    for (at, step) in life.iter().enumerate() {
+        if let Step::Tool(tool) = step {
+            let after = life.get(at + 1..).unwrap_or(&[]);
+            use_in_folder(rt, path, *tool, after, trial)?;
+        }
+    }
+    Ok(())
+}
+
+// Runs the lines of a hub on the files of a folder.
+fn run_in_hub(
+    rt: &HostRuntime,
+    life: &[Step<'_>],
+    path: Path<'_>,
+    trial: &mut Trial,
+) -> Result<(), CaseFault> {
     let disk = open_folder(rt, path)?;
     let mut hub = Hub::new(rt.alloc(), disk, trial.blocks).map_err(CaseFault::Hub)?;
     run_lines(rt.alloc(), &mut hub, life, &mut trial.told)
+}
+
+// Uses a command on the files of a folder.
+fn use_in_folder(
+    rt: &HostRuntime,
+    path: Path<'_>,
+    tool: Tool<'_>,
+    after: &[Step<'_>],
+    trial: &mut Trial,
+) -> Result<(), CaseFault> {
+    let alloc = rt.alloc();
+    let mut output = Vec::new(alloc);
+    let input = input_of(alloc, after)?;
+    let disk = open_folder(rt, path)?;
+    let _hub = use_tool(alloc, disk, trial.blocks, tool, input.as_str(), &mut output)?;
+    compare_told(alloc, tool, after, output.as_slice(), &mut trial.told)
 }
 
 // The disk over a folder.

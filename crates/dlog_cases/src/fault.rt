@@ -1,5 +1,7 @@
 // Why a case fails, and why the program stops.
 use dl_app::ScriptFault;
+use dl_disk::ListFault;
+use dl_tool::ReportFault;
 use dl_types::{Fail, Name};
 use std::alloc::{AllocError, AllocFailed};
 use std::fmt::Write;
@@ -28,6 +30,12 @@ pub enum CaseFault {
     BadOrder(u64),
     #[error("line {0} has to stand before the lines of its hub")]
     LateOrder(u64),
+    #[error("line {0} is of a script and stands after a command")]
+    LateLine(u64),
+    #[error("a command has words that it does not know")]
+    BadTool,
+    #[error("a command could not tell of the files")]
+    Tool,
     #[error("a number of blocks is none")]
     BadBlocks,
     #[error("the bytes of a file are not in hexadecimal")]
@@ -83,6 +91,24 @@ impl fmt::Display for How {
             How::Folder => f.write_str("in a folder"),
             How::Alone(None) => f.write_str("a log alone"),
             How::Alone(Some(log)) => write!(f, "log {log} alone"),
+        }
+    }
+}
+
+impl From<ListFault> for CaseFault {
+    fn from(fault: ListFault) -> CaseFault {
+        match fault {
+            ListFault::Device => CaseFault::Tool,
+            ListFault::OutOfMemory => CaseFault::OutOfMemory,
+        }
+    }
+}
+
+impl From<ReportFault> for CaseFault {
+    fn from(fault: ReportFault) -> CaseFault {
+        match fault {
+            ReportFault::Write => CaseFault::Tool,
+            ReportFault::OutOfMemory => CaseFault::OutOfMemory,
         }
     }
 }

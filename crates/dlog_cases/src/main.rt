@@ -8,6 +8,8 @@ mod devices;
 mod fault;
 mod script;
 mod suite;
+mod told;
+mod tools;
 
 use fault::Stop;
 use std::env;

@@ -124,8 +124,8 @@ fn compare_one(
     Err(CaseFault::Differs(line.number))
 }
 
-// Adds the first bytes of an answer to a text.
-fn tell(text: &mut String, title: &str, answer: &[u8]) -> Result<(), AllocError> {
+/// Adds the first bytes of an answer to a text.
+pub fn tell(text: &mut String, title: &str, answer: &[u8]) -> Result<(), AllocError> {
     text.push_str(title)?;
     for byte in answer.iter().take(SHOWN_BYTES) {
         text.push(char::from(*byte))?;
