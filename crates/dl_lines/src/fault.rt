@@ -1,5 +1,6 @@
 // Why lines are not read on.
-ghost use Rattle.std.specs.Prelude.{◌≡◌};
+ghost use Rattle.std.specs.Prelude.{◌≡◌, ◌↔◌, IsOk};
+ghost use Rattle.std.specs.declared.io.ErrorKind.TheVariants.{Interrupted};
 ghost use Rattle.dl_lines.specs.declared.fault.LineFault.TheVariants.{OutOfMemory};
 
 use std::alloc::{AllocError, AllocFailed};
@@ -17,7 +18,9 @@ pub enum LineFault {
 }
 
 /// Whether a read that failed was interrupted, and is to be tried again.
-pub fn check_again(kind: io::ErrorKind) -> Result<(), LineFault> {
+pub fn check_again(kind: io::ErrorKind) -> Result<(), LineFault>
+    ensures { IsOk result ↔ (kind ≡ Interrupted) }
+{
     match kind {
         io::ErrorKind::Interrupted => Ok(()),
         io::ErrorKind::OutOfMemory => Err(LineFault::OutOfMemory),
