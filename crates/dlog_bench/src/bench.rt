@@ -17,6 +17,8 @@ pub struct Bench<'a> {
     pub items: u64,
     /// Whether lines say how much in place of how fast.
     pub counts: bool,
+    /// The blocks of each hub's cache.
+    pub blocks: u32,
 }
 
 impl Bench<'_> {

@@ -77,8 +77,10 @@ impl<D: Disk + Drop> Client<'_, D> {
     pub fn append(&mut self, logs: &[Name], each: u64) -> Result<Duration, Fault> {
         let calls = self.bench.items.div_ceil(each.max(1));
         let mut spent = Duration::ZERO;
-        // The last round is one of flushes, more than the cache has blocks.
-        for round in 0..=calls.div_ceil(ROUND_CALLS) {
+        // The last rounds are of flushes, at least as many as the cache has blocks.
+        let flushes = u64::from(self.bench.blocks);
+        let rounds = calls.div_ceil(ROUND_CALLS).saturating_add(flushes.div_ceil(ROUND_CALLS));
+        for round in 0..rounds {
             let first = round.saturating_mul(ROUND_CALLS);
             let events = self.bench.round(logs, each, first)?;
             spent = spent.saturating_add(self.time(events)?);

@@ -6,7 +6,7 @@ use thiserror::Error;
 
 #[derive(Clone, Copy, Debug, Error)]
 pub enum Fault {
-    #[error("give DIR, N from 1 to 100000000, and no other word but --counts; --help says more")]
+    #[error("give DIR, N from 1 to 100000000, and no other words but --counts and --blocks=B; --help says more")]
     Misused,
     #[error("out of memory")]
     OutOfMemory(#[from(alloc)] AllocError),

@@ -12,14 +12,18 @@ use measures::measure_all;
 use std::env;
 use std::process::ExitCode;
 
+// The blocks of a hub's cache, as many as the program has by default.
+const BLOCKS: u32 = 16;
+
 const HELP: &str =
     "Measures dlog over the folder DIR and over memory. The files that it makes in DIR begin with bench_:
 those of an earlier run are removed before and its own after, and nothing else is
 
-Usage: dlog_bench [--counts] DIR N
+Usage: dlog_bench [--counts] [--blocks=B] DIR N
 
   DIR            The folder to write in, which has to be there and should be empty
   N              How many items of 100 bytes a measure logs, from 1 to 100000000
+  --blocks=B     The blocks of 4,096 bytes in which items wait, from 1 to 65536; 16 if it is not given
   --counts       Print what was logged and read back in place of how fast
   -h, --help     Print help
   -V, --version  Print version";
@@ -44,13 +48,13 @@ fn run(rt: &HostRuntime) -> Result<(), Fault> {
 
 // Does what the words ask for, the first of which is the name of the program.
 fn run_words(rt: &HostRuntime, words: &[String]) -> Result<(), Fault> {
-    let (mut folder, mut number, mut counts) = (None, None, false);
+    let (mut folder, mut number, mut counts, mut blocks) = (None, None, false, BLOCKS);
     for word in words.iter().skip(1) {
         match word.as_str() {
             "-h" | "--help" => return Ok(println!(rt; "{HELP}")?),
             "-V" | "--version" => return Ok(println!(rt; "dlog_bench 0.1.0")?),
             "--counts" if !counts => counts = true,
-            word if word.starts_with('-') => return Err(Fault::Misused),
+            word if word.starts_with('-') => blocks = blocks_in(word).ok_or(Fault::Misused)?,
             word if folder.is_none() => folder = Some(word),
             word if number.is_none() => number = Some(word),
             _ => return Err(Fault::Misused),
@@ -68,5 +72,11 @@ fn run_words(rt: &HostRuntime, words: &[String]) -> Result<(), Fault> {
         place: "folder",
         items,
         counts,
+        blocks,
     })
+}
+
+// The number of blocks that a word gives.
+fn blocks_in(word: &str) -> Option<u32> {
+    word.strip_prefix("--blocks=")?.parse().ok()
 }

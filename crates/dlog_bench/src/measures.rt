@@ -9,9 +9,6 @@ use std::fs::{self, OpenOptions};
 use std::io::{ErrorKind, Write};
 use std::time::Duration;
 
-// The blocks of a hub's cache, as many as the program has by default.
-const BLOCKS: u32 = 16;
-
 // The most logs that are written in turn, and how many are at first.
 const MOST_LOGS: u64 = 1_000;
 
@@ -129,13 +126,13 @@ fn disk(bench: Bench<'_>) -> Result<FolderDisk<HostRuntime>, Fault> {
 
 // Opens a log of the folder with a new hub, and then reads it. Answers how long the open took.
 fn reopen(bench: Bench<'_>, log: Name, kind: Kind) -> Result<Duration, Fault> {
-    let hub = Hub::new(bench.rt.alloc(), disk(bench)?, BLOCKS)?;
+    let hub = Hub::new(bench.rt.alloc(), disk(bench)?, bench.blocks)?;
     Client { bench, hub }.time_open(log, kind)
 }
 
 // The measures over any disk.
 fn measure<D: Disk + Drop>(bench: Bench<'_>, disk: Result<D, Fault>) -> Result<(), Fault> {
-    let hub = Hub::new(bench.rt.alloc(), disk?, BLOCKS)?;
+    let hub = Hub::new(bench.rt.alloc(), disk?, bench.blocks)?;
     measure_calls(&mut Client { bench, hub })
 }
 
