@@ -31,21 +31,18 @@ pub struct Client<'a, D: Disk + Drop> {
 }
 
 impl<D: Disk + Drop> Client<'_, D> {
-    // Does one event. A refusal is an error here, and so is a block that was not written.
+    // Does one event.
     fn ask(&mut self, event: Event) -> Result<Reply, Fault> {
-        match self.hub.step(event).reply {
-            Reply::Refused(refusal) => Err(Fault::Refused(refusal)),
-            Reply::OutOfMemory => Err(Fault::Hub(Fail::OutOfMemory)),
-            Reply::Turn(Turn::Fault(_)) => Err(Fault::Folder),
-            reply => Ok(reply),
-        }
+        let reply = self.hub.step(event).reply;
+        check(&reply)?;
+        Ok(reply)
     }
 
     // Does events, and answers how long they took.
     fn time(&mut self, events: Vec<Event>) -> Result<Duration, Fault> {
         let start = Instant::now(self.bench.rt)?;
         for event in events {
-            self.ask(event)?;
+            check(&self.hub.step(event).reply)?;
         }
         Ok(start.elapsed(self.bench.rt)?)
     }
@@ -105,6 +102,16 @@ impl<D: Disk + Drop> Client<'_, D> {
             return Err(Fault::Items);
         }
         Ok(start.elapsed(self.bench.rt)?)
+    }
+}
+
+// A refusal is an error here, and so is a block that was not written.
+fn check(reply: &Reply) -> Result<(), Fault> {
+    match reply {
+        Reply::Refused(refusal) => Err(Fault::Refused(*refusal)),
+        Reply::OutOfMemory => Err(Fault::Hub(Fail::OutOfMemory)),
+        Reply::Turn(Turn::Fault(_)) => Err(Fault::Folder),
+        _ => Ok(()),
     }
 }
 
