@@ -76,7 +76,9 @@ impl<D: Disk + Drop> Client<'_, D> {
         let mut spent = Duration::ZERO;
         // The last rounds are of flushes, at least as many as the cache has blocks.
         let flushes = u64::from(self.bench.blocks);
-        let rounds = calls.div_ceil(ROUND_CALLS).saturating_add(flushes.div_ceil(ROUND_CALLS));
+        let rounds = calls
+            .div_ceil(ROUND_CALLS)
+            .saturating_add(flushes.div_ceil(ROUND_CALLS));
         for round in 0..rounds {
             let first = round.saturating_mul(ROUND_CALLS);
             let events = self.bench.round(logs, each, first)?;
