@@ -1,106 +1,137 @@
 -- The strays of a list of files.
-use Rattle.std.proofs.Common.{◌≡◌, ◌<◌, ◌⊎◌, inl, inr, ℕ, List, [], ◌∷◌, ◌++◌, Bool, true, false, cond, Option, Some, None, length, refl, sym, ◌∙◌, ap, subst, arith}
-use Rattle.std.specs.Prelude.{◌↔◌, ◌&&◌, not, filter, IsSome}
+use Rattle.std.proofs.Common.{◌≡◌, ◌≤◌, ◌<◌, ◌+◌, ◌^◌, ◌⊎◌, inl, inr, ℕ, List, [], ◌∷◌, ◌++◌, Bool, true, false, cond, Option, Some, None, Result, Ok, IsTrue, refl, sym, ◌∙◌, ap, subst, length, arith}
+use Rattle.std.specs.Prelude.{◌↔◌, not, IsSome}
 use Rattle.std.specs.FinMap as map
-use Rattle.std.specs.List.{filter_map, list_any, Contains}
-use Rattle.std.specs.List.Sorted.{IsPermutation}
+use Rattle.std.specs.List.{Contains}
 use Rattle.std.proofs.lemmas.List.Elements.{Contains-append_left, Contains-append_right, Contains-append_cases}
-use Rattle.std.proofs.lemmas.List.Folds.{list_any-from_Any}
-use Rattle.std.proofs.lemmas.List.Sorted.{Contains-permutation, IsPermutation-sym}
-use Rattle.std.proofs.lemmas.Map.Views.{Contains-from_any}
 use Rattle.dl_types.specs.declared.name.Base.{Base}
 use Rattle.dl_types.specs.declared.file.FileName.{FileName}
-use Rattle.dl_types.specs.declared.size.Kind.{Kind}
-use Rattle.dl_types.specs.declared.size.Kind.TheVariants.{Halt, Wrap}
+use Rattle.dl_types.specs.declared.file.Part.{Part}
+use Rattle.dl_types.specs.declared.file.Part.TheVariants as part
 use Rattle.dl_types.specs.FileName.{Content}
-use Rattle.dl_types.specs.Name.{same_base}
-use Rattle.dl_types.specs.State.{same_kind}
-use Rattle.dl_types.proofs.Keys.{base_decides}
-use Rattle.dl_tool.specs.declared.line.LogFiles.{LogFiles}
-use Rattle.dl_tool.specs.Folder.{log_of, main_file}
-use Rattle.dl_tool.specs.Stray.{is_numbered, is_stray, same_log, strays_in, wrap_of, IsStray, AreStrays}
-use Rattle.dl_tool.proofs.Logs.{one_of, the_one, by_file, of_file}
+use Rattle.dl_disk.specs.Disk.{DiskState, IsUncounted, Rises}
+use Rattle.dl_disk.proofs.Acts.{acts_none, acts_later}
+use Rattle.dl_index.specs.declared.entry.Entry.{Entry}
+use Rattle.dl_index.specs.declared.entry.Limits.{Limits}
+use Rattle.dl_index.specs.IndexText.{IsIndex}
+use Rattle.dl_index.proofs.Bytes.{length-index_text}
+use Rattle.dl_wrap.specs.Found.{IsNoIndex}
+use Rattle.dl_log.proofs.Stored.{index_once}
+use Rattle.dl_tool.specs.declared.finding.CheckFault.{CheckFault}
+use Rattle.dl_tool.specs.declared.named.Known.{Known}
+use Rattle.dl_tool.specs.declared.named.Named.{Named}
+use Rattle.dl_tool.specs.declared.named.Named.TheVariants as named
+use Rattle.dl_tool.specs.declared.named.TheConstants.{INDEX_LIMIT}
+use Rattle.dl_tool.specs.Named.{index_of, leaves_out, names_number, IsLeftOut, IsNamed, Knows, LeavesOut}
+use Rattle.dl_tool.specs.Reads.{OnlyReads, ReadsLog}
+use Rattle.dl_tool.specs.Stray.{IsStray, ArePicked, AreStrays}
+use Rattle.dl_tool.proofs.Logs.{one_of, the_one}
 
--- ---- a list of which some are taken
-pub filter_from : {X : Type 0} (p : X → Bool) (xs : List X) (x : X) → Contains (filter p xs) x → Contains xs x × (p x ≡ true)
-filter_from p [] x has = absurd (omega (arith, has.1))
-filter_from {X} p (y ∷ ys) x has = by (filter_from p ys x) (p y) refl
-  where
-    later : Contains ys x × (p x ≡ true) → Contains (y ∷ ys) x × (p x ≡ true)
-    later had = (Contains-append_right (y ∷ []) ys x had.0, had.1)
+-- ---- what an index names
 
-    pick : (Contains (filter p ys) x → Contains ys x × (p x ≡ true)) → p y ≡ true → (Contains (y ∷ []) x ⊎ Contains (filter p ys) x) → Contains (y ∷ ys) x × (p x ≡ true)
-    pick known is (inl one) = (Contains-append_left (y ∷ []) ys x one, ap p (sym (the_one y x one)) ∙ is)
-    pick known is (inr had) = later (known had)
+is_not : (v : Bool) → not v ≡ true → v ≡ false
+is_not true h = sym h
+is_not false h = refl
 
-    by : (Contains (filter p ys) x → Contains ys x × (p x ≡ true)) → (t : Bool) → p y ≡ t → Contains (y ∷ ys) x × (p x ≡ true)
-    by known true is = pick known is (Contains-append_cases (y ∷ []) (filter p ys) x (subst (λ (t : Bool). Contains (cond t (y ∷ filter p ys) (filter p ys)) x) is has))
-    by known false is = later (known (subst (λ (t : Bool). Contains (cond t (y ∷ filter p ys) (filter p ys)) x) is has))
+not_is : (v : Bool) → v ≡ false → not v ≡ true
+not_is true h = sym h
+not_is false h = refl
 
-pub filter_to : {X : Type 0} (p : X → Bool) (xs : List X) (x : X) → Contains xs x → p x ≡ true → Contains (filter p xs) x
-filter_to p [] x has good = absurd (omega (arith, has.1))
-filter_to {X} p (y ∷ ys) x has good = by (filter_to p ys x) (Contains-append_cases (y ∷ []) ys x has)
-  where
-    later : (t : Bool) → Contains (filter p ys) x → Contains (cond t (y ∷ filter p ys) (filter p ys)) x
-    later true had = Contains-append_right (y ∷ []) (filter p ys) x had
-    later false had = had
+index_left : (text : List ℕ) (limits : Limits) (entries : List Entry) (n : ℕ) → IsIndex text limits entries → not (names_number n entries) ≡ true ↔ LeavesOut (Some text) n
+index_left text limits entries n is = (
+  (λ h. (limits, entries, is, is_not (names_number n entries) h)),
+  (λ left. let same = (index_once text limits left.0 entries left.1 is left.2).1 in not_is (names_number n entries) (ap (names_number n) same ∙ left.3)),
+)
 
-    by : (Contains ys x → p x ≡ true → Contains (filter p ys) x) → (Contains (y ∷ []) x ⊎ Contains ys x) → Contains (cond (p y) (y ∷ filter p ys) (filter p ys)) x
-    by known (inl one) =
-        subst (λ (t : Bool). Contains (cond t (y ∷ filter p ys) (filter p ys)) x) (sym (ap p (the_one y x one) ∙ good))
-        (Contains-append_left (y ∷ []) (filter p ys) x one)
-    by known (inr had) = later (p y) (known had good)
+none_left : (text : List ℕ) (n : ℕ) → ((limits : Limits) (entries : List Entry) → IsIndex text limits entries → ⊥) → false ≡ true ↔ LeavesOut (Some text) n
+none_left text n none = ((λ h. let bad : ⊥ = cc in absurd bad), (λ left. absurd (none left.0 left.1 left.2)))
 
--- ---- a log among others
-same_kinds : (b c : Base) (k m : Kind) → (same_kind k m && same_base b c) ≡ true → ◌≡◌ {A = LogFiles} (record { base = b; kind = k }) (record { base = c; kind = m })
-same_kinds b c Halt Halt is = ap (λ (x : Base). let log : LogFiles = record { base = x; kind = Halt } in log) ((base_decides b c).0 is)
-same_kinds b c Wrap Wrap is = ap (λ (x : Base). let log : LogFiles = record { base = x; kind = Wrap } in log) ((base_decides b c).0 is)
-same_kinds b c Halt Wrap is = cc
-same_kinds b c Wrap Halt is = cc
+-- a text that is longer than an index is none
+pub long_none : (text : List ℕ) → INDEX_LIMIT < length text → IsNoIndex text
+long_none text long limits entries is = absurd (omega (arith, long, is.set.few, ap length is.written, length-index_text limits entries))
 
-has_wrap : (logs : List LogFiles) (base : Base) → list_any (same_log (wrap_of base)) logs ≡ true → Contains logs (wrap_of base)
-has_wrap logs base any = Contains-from_any {eq = same_log} (λ x y is. same_kinds x.base y.base x.kind y.kind is) (wrap_of base) logs any
+-- by what is known, a number is left out exactly if no file of it is named
+pub left_out : {Z : Type 0} (there : Option (List ℕ)) (k : Named Z) (n : ℕ) → IsNamed there k → leaves_out k n ≡ true ↔ LeavesOut there n
+left_out there named.Nothing n is = subst (λ (o : Option (List ℕ)). true ≡ true ↔ LeavesOut o n) (sym is) ((λ h. tt), (λ u. refl))
+left_out there named.NoIndex n is = subst (λ (o : Option (List ℕ)). false ≡ true ↔ LeavesOut o n) (sym is.1) (none_left is.0 n is.2)
+left_out there (named.Index i) n is = subst (λ (o : Option (List ℕ)). not (names_number n i.entries) ≡ true ↔ LeavesOut o n) (sym is.1) (index_left is.0 i.limits i.entries n is.2)
 
-wrap_any : (logs : List LogFiles) (base : Base) → Contains logs (wrap_of base) → list_any (same_log (wrap_of base)) logs ≡ true
-wrap_any logs base (k, below, is) = list_any-from_Any (same_log (wrap_of base)) logs (k, wrap_of base, below, is, (base_decides base base).1 refl)
+-- ---- the strays of names, and of one more
 
--- ---- the strays
-both : (a b : Bool) → (a && b) ≡ true → (a ≡ true) × (b ≡ true)
-both true true is = (refl, refl)
-both true false is = cc
-both false b is = cc
+module _ (content : Content) where
+  abbrev Left : FileName → Type 0
+  Left f = IsLeftOut (index_of content f.base) f.part
 
-none_there : {X : Type 0} (o : Option X) → (IsSome o → ⊥) → o ≡ None
-none_there None never = refl
-none_there (Some x) never = absurd (never refl)
+  one_from : (b : Bool) (x f : FileName) → (b ≡ true ↔ Left x) → Contains (cond b (x ∷ []) []) f → (x ≡ f) × Left f
+  one_from true x f is has = let same = the_one x f has in (same, subst Left same (is.0 refl))
+  one_from false x f is has = absurd (omega (arith, has.1))
 
-module _ (content : Content) (names sorted : List FileName) (same : IsPermutation names sorted) (listed : (f : FileName) → Contains names f ↔ IsSome (map.get content f)) where
-  is_there : (f : FileName) → Contains sorted f → IsSome (map.get content f)
-  is_there f has = (listed f).0 (Contains-permutation sorted names f (IsPermutation-sym names sorted same) has)
+  one_to : (b : Bool) (x : FileName) → (b ≡ true ↔ Left x) → Left x → Contains (cond b (x ∷ []) []) x
+  one_to true x is left = one_of x
+  one_to false x is left = let never = is.1 left in let bad : ⊥ = cc in absurd bad
 
-  there_is : (f : FileName) → IsSome (map.get content f) → Contains sorted f
-  there_is f there = Contains-permutation names sorted f same ((listed f).1 there)
+  module _ (names files : List FileName) (x : FileName) (b : Bool) (is : b ≡ true ↔ Left x) (picked : ArePicked content names files) where
+    from : (f : FileName) → (Contains files f ⊎ Contains (cond b (x ∷ []) []) f) → Contains (names ++ x ∷ []) f × Left f
+    from f (inl had) = let p = (picked f).0 had in (Contains-append_left names (x ∷ []) f p.0, p.1)
+    from f (inr one) =
+        let p = one_from b x f is one in
+        (Contains-append_right names (x ∷ []) f (subst (λ (g : FileName). Contains (x ∷ []) g) p.0 (one_of x)), p.1)
 
-  stray_from : (f : FileName) → Contains (strays_in sorted) f → IsStray content f
-  stray_from f has =
-      let had = filter_from (is_stray (filter_map log_of sorted)) sorted f has in
-      let parts = both (is_numbered f.part) (not (list_any (same_log (wrap_of f.base)) (filter_map log_of sorted))) had.1 in
-      record {
-        there = is_there f had.0;
-        numbered = parts.0;
-        unnamed = none_there (map.get content (main_file (wrap_of f.base)))
-            (λ there. let any = wrap_any (filter_map log_of sorted) f.base (of_file sorted (wrap_of f.base) (there_is (main_file (wrap_of f.base)) there)) in let clash = sym parts.1 ∙ ap not any in cc);
-      }
+    to : (f : FileName) → Left f → (Contains names f ⊎ Contains (x ∷ []) f) → Contains (files ++ cond b (x ∷ []) []) f
+    to f left (inl had) = Contains-append_left files (cond b (x ∷ []) []) f ((picked f).1 (had, left))
+    to f left (inr one) =
+        let same = the_one x f one in
+        Contains-append_right files (cond b (x ∷ []) []) f (subst (λ (g : FileName). Contains (cond b (x ∷ []) []) g) same (one_to b x is (subst Left (sym same) left)))
 
-  unnamed_not : (f : FileName) → map.get content (main_file (wrap_of f.base)) ≡ None → (t : Bool) → list_any (same_log (wrap_of f.base)) (filter_map log_of sorted) ≡ t → not t ≡ true
-  unnamed_not f unnamed false is = refl
-  unnamed_not f unnamed true is =
-      let there = subst (λ (o : Option (List ℕ)). IsSome o) unnamed (is_there (main_file (wrap_of f.base)) (by_file sorted (wrap_of f.base) (has_wrap (filter_map log_of sorted) f.base is))) in cc
+    pub picked_more : ArePicked content (names ++ x ∷ []) (files ++ cond b (x ∷ []) [])
+    picked_more f = ((λ has. from f (Contains-append_cases files (cond b (x ∷ []) []) f has)), (λ p. to f p.1 (Contains-append_cases names (x ∷ []) f p.0)))
 
-  to_stray : (f : FileName) → IsStray content f → Contains (strays_in sorted) f
-  to_stray f h =
-      let unnamed = unnamed_not f h.unnamed (list_any (same_log (wrap_of f.base)) (filter_map log_of sorted)) refl in
-      filter_to (is_stray (filter_map log_of sorted)) sorted f (there_is f h.there) ((λ j. h.numbered j && not (list_any (same_log (wrap_of f.base)) (filter_map log_of sorted))) ∙ unnamed)
+  pub picked_none : ArePicked content [] []
+  picked_none f = ((λ has. absurd (omega (arith, has.1))), (λ p. p.0))
 
-  pub strays_are : AreStrays content (strays_in sorted)
-  strays_are f = (stray_from f, to_stray f)
+  pub strays_are : (names files : List FileName) → ((f : FileName) → Contains names f ↔ IsSome (map.get content f)) → ArePicked content names files → AreStrays content files
+  strays_are names files listed picked f =
+      ((λ has. let p = (picked f).0 has in record { there = (listed f).0 p.0; unnamed = p.1 }), (λ s. (picked f).1 ((listed f).1 s.there, s.unnamed)))
+
+-- ---- what the reading does to a disk
+
+pub only_none : (a : DiskState) → OnlyReads a a
+only_none a = record { later = λ b. omega arith; stayed = λ h. h; same = λ h. refl }
+
+pub only_then : (a b c : DiskState) → OnlyReads a b → OnlyReads b c → OnlyReads a c
+only_then a b c one two = record {
+  later = λ d. omega (arith, one.later d, two.later d);
+  stayed = λ h. one.stayed (two.stayed h);
+  same = λ h. two.same h ∙ one.same (two.stayed h);
+}
+
+-- a list of names is read
+pub only_uncounted : (a b : DiskState) → IsUncounted a b → (IsTrue b.honest → b.content ≡ a.content) → OnlyReads a b
+only_uncounted a b one same = record { later = λ d. omega (arith, one.counts d); stayed = one.stayed; same = same }
+
+-- so are files of one base
+pub only_log : {T : Type 0} (base : Base) (a b : DiskState) (r : Result T CheckFault) → ReadsLog base a b r → OnlyReads a b
+only_log base a b r reads = record { later = acts_later base a b reads.acts; stayed = reads.acts.stayed; same = reads.same }
+
+-- a count that rose in the end rose
+pub rises_over : (a b c : ℕ) → a ≤ b → Rises b c → Rises a c
+rises_over a b c le (inl less) = inl (omega (arith, le, less))
+rises_over a b c le (inr top) = inr top
+
+-- ---- one file
+
+-- a file that is no numbered one
+pub not_left : (there : Option (List ℕ)) (p : Part) → ((n : ℕ) → p ≡ part.Numbered n → ⊥) → false ≡ true ↔ IsLeftOut there p
+not_left there part.Halt never = ((λ h. let bad : ⊥ = cc in absurd bad), (λ left. absurd left))
+not_left there part.Index never = ((λ h. let bad : ⊥ = cc in absurd bad), (λ left. absurd left))
+not_left there (part.Numbered n) never = absurd (never n refl)
+
+-- one that is, by what is known of the index of its base
+pub judged_left : {Z : Type 0} (content : Content) (base : Base) (p : Part) (n : ℕ) (k : Known Z) (b : Bool) → p ≡ part.Numbered n → k.base ≡ base → Knows content k → b ≡ leaves_out k.named n → b ≡ true ↔ IsLeftOut (index_of content base) p
+judged_left content base p n k b is at knows found =
+    let one = left_out (index_of content base) k.named n (subst (λ (d : Base). IsNamed (index_of content d) k.named) at knows) in
+    subst (λ (q : Part). b ≡ true ↔ IsLeftOut (index_of content base) q) (sym is) (subst (λ (v : Bool). v ≡ true ↔ LeavesOut (index_of content base) n) (sym found) one)
+
+-- nothing was read
+pub read_none : {T : Type 0} (base : Base) (a : DiskState) (x : T) → ReadsLog base a a (Ok x)
+read_none base a x = record { acts = acts_none base a; same = λ h. refl; fault = λ f is. cc }

@@ -10,4 +10,5 @@ pub mod Report
 pub mod List
 pub mod About
 pub mod Copy
+pub mod Named
 pub mod Stray

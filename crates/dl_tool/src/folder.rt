@@ -1,6 +1,8 @@
 // The logs of a folder.
-ghost use Rattle.std.specs.Prelude.{◌≡◌, IsTrue, IfOk};
+ghost use Rattle.std.specs.Prelude.{◌≡◌, ◌↔◌, Contains, IsSome, IsTrue, IfOk};
+ghost use Rattle.std.specs.FinMap as map;
 ghost use Rattle.std.specs.List.{filter_map};
+ghost use Rattle.dl_types.specs.declared.file.FileName.{FileName};
 ghost use Rattle.dl_disk.specs.Disk.{IsUncounted};
 ghost use Rattle.dl_tool.specs.Folder.{log_of, named_in, AreLogs};
 
@@ -18,12 +20,25 @@ pub fn find_logs<D: Disk, A: Allocator + Copy>(
     ensures content { IsTrue (D.state disk.new).honest → (D.state disk.new).content ≡ (D.state disk.old).content }
     ensures logs { IsTrue (D.state disk.new).honest → IfOk result (λ logs. AreLogs (D.state disk.old).content logs.items) }
 {
-    let mut names = disk.list(alloc)?;
-    names.sort_unstable();
+    let names = sorted_names(alloc, disk)?;
     match logs_of(alloc, &names) {
         Err(_) => Err(ListFault::OutOfMemory),
         Ok(logs) => Ok(logs),
     }
+}
+
+/// The names of the files of a folder, in order of base.
+pub fn sorted_names<D: Disk, A: Allocator + Copy>(
+    alloc: A,
+    disk: &mut D,
+) -> Result<Vec<FileName, A>, ListFault>
+    ensures device { IsUncounted (D.state disk.old) (D.state disk.new) }
+    ensures content { IsTrue (D.state disk.new).honest → (D.state disk.new).content ≡ (D.state disk.old).content }
+    ensures names { IsTrue (D.state disk.new).honest → IfOk result (λ names. (f : FileName) → Contains names.items f ↔ IsSome (map.get (D.state disk.old).content f)) }
+{
+    let mut names = disk.list(alloc)?;
+    names.sort_unstable();
+    Ok(names)
 }
 
 /// The logs of these that have this base, or, if there is none, the halt log of it, which a check then finds absent.
@@ -49,8 +64,8 @@ pub fn logs_named<A: Allocator + Copy>(
     Ok(own)
 }
 
-/// The logs that are there by these files.
-pub fn logs_of<A: Allocator>(alloc: A, names: &[FileName]) -> Result<Vec<LogFiles, A>, AllocError>
+// The logs that are there by these files.
+fn logs_of<A: Allocator>(alloc: A, names: &[FileName]) -> Result<Vec<LogFiles, A>, AllocError>
     ensures { IfOk result (λ logs. logs.items ≡ filter_map log_of names.now) }
 {
     let mut logs = Vec::new(alloc);

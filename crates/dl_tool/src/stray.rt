@@ -1,71 +1,140 @@
 // Files of a folder that belong to no log.
-ghost use Rattle.std.specs.Prelude.{◌≡◌, IsTrue, IfOk};
-ghost use Rattle.std.specs.List.{list_any};
-ghost use Rattle.dl_disk.specs.Disk.{IsUncounted};
-ghost use Rattle.dl_tool.specs.Stray.{is_numbered, is_stray, same_log, strays_in, wrap_of, AreStrays};
+ghost use Rattle.std.specs.Prelude.{◌≡◌, ◌↔◌, ◌++◌, ◌∷◌, [], IsTrue, IfOk, IfSome, OnOk, Err, if◌then◌else◌};
+ghost use Rattle.dl_types.specs.declared.file.FileName.{FileName};
+ghost use Rattle.dl_disk.specs.Disk.{Rises};
+ghost use Rattle.dl_tool.specs.declared.stray.StrayFault.TheVariants as stray;
+ghost use Rattle.dl_tool.specs.Named.{index_of, IsLeftOut, Knows};
+ghost use Rattle.dl_tool.specs.Reads.{OnlyReads, ReadsLog};
+ghost use Rattle.dl_tool.specs.Stray.{list_fault, stray_fault, ArePicked, AreStrays};
 
-use crate::folder::logs_of;
-use crate::line::LogFiles;
+use crate::finding::CheckFault;
+use crate::folder::sorted_names;
+use crate::named::{Known, known_of, leaves_out};
 use dl_disk::{Disk, ListFault};
-use dl_types::{Base, FileName, Kind, Part};
+use dl_types::{FileName, Part};
 use std::alloc::{AllocError, Allocator};
+use thiserror::Error;
 
-/// The numbered files of a folder whose base has no index there, in order of base and number. No log has them, and a wrap
-/// log that is begun at that base puts its files in their place.
-pub fn find_strays<D: Disk, A: Allocator + Copy>(
-    alloc: A,
-    disk: &mut D,
-) -> Result<Vec<FileName, A>, ListFault>
-    ensures device { IsUncounted (D.state disk.old) (D.state disk.new) }
-    ensures content { IsTrue (D.state disk.new).honest → (D.state disk.new).content ≡ (D.state disk.old).content }
-    ensures strays { IsTrue (D.state disk.new).honest → IfOk result (λ files. AreStrays (D.state disk.old).content files.items) }
-{
-    let mut names = disk.list(alloc)?;
-    names.sort_unstable();
-    match strays_in(alloc, &names) {
-        Err(_) => Err(ListFault::OutOfMemory),
-        Ok(files) => Ok(files),
+/// Why the files that belong to no log were not found.
+#[derive(Clone, Copy, Debug, PartialEq, Eq, Error)]
+pub enum StrayFault {
+    #[error("the folder cannot be listed")]
+    List,
+    /// The device failed at this index.
+    #[error("cannot read {0}")]
+    Device(FileName),
+    #[error("out of memory")]
+    OutOfMemory,
+}
+
+impl From<AllocError> for StrayFault {
+    ghost from_gives = { λ _ e. e ≡ stray.OutOfMemory };
+
+    fn from(_: AllocError) -> StrayFault {
+        StrayFault::OutOfMemory
     }
 }
 
-// The strays of these files.
-fn strays_in<A: Allocator + Copy>(
+impl From<CheckFault> for StrayFault {
+    ghost from_gives = { λ fault e. e ≡ stray_fault fault };
+
+    fn from(fault: CheckFault) -> StrayFault {
+        match fault {
+            CheckFault::Device(file) => StrayFault::Device(file),
+            CheckFault::OutOfMemory => StrayFault::OutOfMemory,
+        }
+    }
+}
+
+impl From<ListFault> for StrayFault {
+    ghost from_gives = { λ fault e. e ≡ list_fault fault };
+
+    fn from(fault: ListFault) -> StrayFault {
+        match fault {
+            ListFault::Device => StrayFault::List,
+            ListFault::OutOfMemory => StrayFault::OutOfMemory,
+        }
+    }
+}
+
+/// The numbered files of a folder that the index of their base does not name, or whose base has no index, in order of base
+/// and number. No log has them, and a wrap log that comes to such a number puts a file in its place. Where a text stands that
+/// is no index, the files of its base are not told. Each index is read once, and nothing is changed.
+pub fn find_strays<D: Disk, A: Allocator + Copy>(
     alloc: A,
-    names: &[FileName],
-) -> Result<Vec<FileName, A>, AllocError>
-    ensures { IfOk result (λ files. files.items ≡ strays_in names.now) }
+    disk: &mut D,
+) -> Result<Vec<FileName, A>, StrayFault>
+    ensures reads { OnlyReads (D.state disk.old) (D.state disk.new) }
+    ensures device { (f : FileName) → result ≡ Err (StrayFault.Device f) → Rises ((D.state disk.old).faults f.base) ((D.state disk.new).faults f.base) }
+    ensures strays { IsTrue (D.state disk.new).honest → IfOk result (λ files. AreStrays (D.state disk.old).content files.items) }
 {
-    let logs = logs_of(alloc, names)?;
+    let names = sorted_names(alloc, disk)?;
+    strays_in(alloc, disk, names.as_slice())
+}
+
+// The strays of these files.
+fn strays_in<D: Disk, A: Allocator + Copy>(
+    alloc: A,
+    disk: &mut D,
+    names: &[FileName],
+) -> Result<Vec<FileName, A>, StrayFault>
+    ensures reads { OnlyReads (D.state disk.old) (D.state disk.new) }
+    ensures device { (f : FileName) → result ≡ Err (StrayFault.Device f) → Rises ((D.state disk.old).faults f.base) ((D.state disk.new).faults f.base) }
+    ensures strays { IsTrue (D.state disk.new).honest → IfOk result (λ files. ArePicked (D.state disk.old).content names.now files.items) }
+{
+    let mut known = None;
     let mut files = Vec::new(alloc);
     for name in names {
-        if is_stray(logs.as_slice(), *name) {
-            files.push(*name)?;
-        }
+        let judged = judge(alloc, disk, known, *name)?;
+        push_if(&mut files, *name, judged.is_stray)?;
+        known = judged.known;
     }
     Ok(files)
 }
 
-// Whether a file is a numbered one of a wrap log that is none of these.
-fn is_stray(logs: &[LogFiles], file: FileName) -> bool
-    ensures { result ≡ is_stray logs.now file }
-{
-    is_numbered(file.part) && !has_wrap(logs, file.base)
+// Whether a file is a stray, and what is known of the last index that was read.
+#[derive(Drop)]
+struct Judged<A: Allocator> {
+    known: Option<Known<A>>,
+    is_stray: bool,
 }
 
-// Whether a file of a wrap log has this part.
-fn is_numbered(part: Part) -> bool
-    ensures { result ≡ is_numbered part }
+// Finds whether a file is a numbered one that its index does not name. The index is read, unless this is known of it.
+fn judge<D: Disk, A: Allocator + Copy>(
+    alloc: A,
+    disk: &mut D,
+    known: Option<Known<A>>,
+    file: FileName,
+) -> Result<Judged<A>, CheckFault>
+    requires { IsTrue (D.state disk.old).honest → IfSome known (Knows (D.state disk.old).content) }
+    ensures reads { ReadsLog file.base (D.state disk.old) (D.state disk.new) result }
+    ensures knows { IsTrue (D.state disk.new).honest → IfOk result (λ judged. IfSome judged.known (Knows (D.state disk.old).content)) }
+    ensures stray { IsTrue (D.state disk.new).honest → IfOk result (λ judged. IsTrue judged.is_stray ↔ IsLeftOut (index_of (D.state disk.old).content file.base) file.part) }
 {
-    match part {
-        Part::Numbered(_) => true,
-        Part::Halt | Part::Index => false,
+    let Part::Numbered(number) = file.part else {
+        return Ok(Judged {
+            known,
+            is_stray: false,
+        });
+    };
+    let own = known_of(alloc, disk, known, file.base)?;
+    let is_stray = leaves_out(&own.named, number);
+    Ok(Judged {
+        known: Some(own),
+        is_stray,
+    })
+}
+
+// Adds a file if it is to be there.
+fn push_if<A: Allocator>(
+    files: &mut Vec<FileName, A>,
+    file: FileName,
+    is_there: bool,
+) -> Result<(), AllocError>
+    ensures { OnOk result (files.new.items ≡ files.old.items ++ (if is_there then file ∷ [] else [])) }
+{
+    if is_there {
+        files.push(file)?;
     }
-}
-
-// Whether the wrap log of this base is one of these.
-fn has_wrap(logs: &[LogFiles], base: Base) -> bool
-    ensures { result ≡ list_any (same_log (wrap_of base)) logs.now }
-{
-    logs.iter()
-        .any(|log| Kind::Wrap.is_same(log.kind) && base == log.base)
+    Ok(())
 }
