@@ -6,7 +6,7 @@ ghost use Rattle.dlog.specs.Status.{health_status};
 use crate::folder::{folder_word, logs_in, no_name, opened};
 use crate::{BUFFER_BYTES, UNCLEAN, UNREAD, tell};
 use clap::{Arg, ArgAction, ArgMatches, Command};
-use dl_disk::{FolderDisk, ListFault};
+use dl_disk::FolderDisk;
 use dl_tool::{
     Health, LogFiles, ReportFault, Style, check_logs, find_strays, list_logs, logs_named,
 };
@@ -107,8 +107,7 @@ fn tell_strays(
 ) -> Result<(), ExitCode> {
     let strays = match find_strays(rt.alloc(), disk) {
         Ok(strays) => strays,
-        Err(ListFault::Device) => return Err(tell(rt, "the folder cannot be listed", UNREAD)),
-        Err(ListFault::OutOfMemory) => return Err(tell(rt, ReportFault::OutOfMemory, UNREAD)),
+        Err(fault) => return Err(tell(rt, fault, UNREAD)),
     };
     for file in &strays {
         let told = match style {

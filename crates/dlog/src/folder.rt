@@ -1,10 +1,10 @@
 // The folder of a command, and the logs in it.
 use crate::{MISUSED, UNREAD, open_folder, tell};
-use clap::{Arg, ArgMatches};
+use clap::{Arg, ArgMatches, Command};
 use dl_disk::{FolderDisk, ListFault, OpenFault};
 use dl_tool::{LogFiles, find_logs, logs_named};
 use dl_types::{Base, Kind, Name};
-use std::alloc::Global;
+use std::alloc::{AllocError, Global};
 use std::process::ExitCode;
 
 /// The word for the folder.
@@ -15,19 +15,34 @@ pub fn folder_word<'a>(alloc: Global) -> Arg<'a> {
         .help("The folder of the logs, which has to be there")
 }
 
-/// The word for a log of the folder.
-pub fn name_word<'a>(alloc: Global) -> Arg<'a> {
-    Arg::new(alloc, "name")
+/// A command on a log of a folder, with the words for both.
+pub fn log_command<'a>(alloc: Global, name: &'a str) -> Result<Command<'a>, AllocError> {
+    let kind = Arg::new(alloc, "kind").long("kind").value_name("KIND").help(
+        "halt or wrap, where the folder has a log of each kind with this name",
+    );
+    let log = Arg::new(alloc, "name")
         .value_name("NAME")
         .required(true)
-        .help("The name of the log")
+        .help("The name of the log");
+    Command::new(alloc, name)
+        .arg(folder_word(alloc))?
+        .arg(log)?
+        .arg(kind)
 }
 
-/// The word for the kind of a log.
-pub fn kind_word<'a>(alloc: Global) -> Arg<'a> {
-    Arg::new(alloc, "kind").long("kind").value_name("KIND").help(
-        "halt or wrap, where the folder has a log of each kind with this name",
-    )
+/// A log of a folder, and the disk over the folder.
+pub struct NamedLog {
+    pub log: Name,
+    pub kind: Kind,
+    pub disk: FolderDisk<HostRuntime>,
+}
+
+/// The log that the words of such a command name, or the status after it was told what is wrong with them.
+pub fn log_in(rt: &HostRuntime, options: &ArgMatches<'_>) -> Result<NamedLog, ExitCode> {
+    let log = named(rt, options)?;
+    let mut disk = opened(rt, options)?;
+    let kind = kind_in(rt, options, &mut disk, log)?;
+    Ok(NamedLog { log, kind, disk })
 }
 
 /// The disk over the folder that the words name, or the status after it was told what is wrong with it.
@@ -84,7 +99,7 @@ pub fn logs_in(
     }
 }
 
-/// The kinds of the logs of this name that the folder has; that of a halt log if it has none.
+// The kinds of the logs of this name that the folder has; that of a halt log if it has none.
 fn kinds_of(
     rt: &HostRuntime,
     disk: &mut FolderDisk<HostRuntime>,
@@ -119,8 +134,8 @@ pub fn kind_there(
     }
 }
 
-/// The kind that the words name, or else that of the log of this name.
-pub fn kind_in(
+// The kind that the words name, or else that of the log of this name.
+fn kind_in(
     rt: &HostRuntime,
     options: &ArgMatches<'_>,
     disk: &mut FolderDisk<HostRuntime>,
