@@ -1,7 +1,7 @@
 // A case over the disk in memory, behind a fuse, and over a folder.
 use crate::alone::{alone, private_logs};
 use crate::answer::bytes_of;
-use crate::case::{Step, Tool};
+use crate::case::{Failure, Step, Tool};
 use crate::fault::{CaseFault, How};
 use crate::script::run_lines;
 use crate::told::{compare_told, input_of};
@@ -77,13 +77,14 @@ fn live_in_memory(
     trial: &mut Trial,
 ) -> Result<MemoryDisk, CaseFault> {
     let files = laid(alloc, files, life)?;
-    let disk = fused(alloc, files, life);
+    let disk = fused(alloc, files, failure_in(life));
     let mut hub = Hub::new(alloc, disk, trial.blocks).map_err(CaseFault::Hub)?;
     let left = run_scripts(alloc, &mut hub, life, trial)?;
     use_in_memory(alloc, left, life, trial)
 }
 
-// Uses the commands among the steps of a hub on the files that it leaves. Gives the files that they leave.
+// Uses the commands among the steps of a hub on the files that it leaves, the first over a device that fails as the steps say.
+// Gives the files that they leave.
 fn use_in_memory(
     alloc: Global,
     files: MemoryDisk,
@@ -91,10 +92,13 @@ fn use_in_memory(
     trial: &mut Trial,
 ) -> Result<MemoryDisk, CaseFault> {
     let mut files = files;
+    let mut failure = failure_in(life);
     for (at, step) in life.iter().enumerate() {
         if let Step::Tool(tool) = step {
             let after = life.get(at + 1..).unwrap_or(&[]);
-            files = use_one_in_memory(alloc, files, *tool, after, trial)?;
+            let disk = fused(alloc, files, failure);
+            files = use_one_in_memory(alloc, disk, *tool, after, trial)?;
+            failure = None;
         }
     }
     Ok(files)
@@ -103,23 +107,16 @@ fn use_in_memory(
 // Uses a command, after which these steps stand.
 fn use_one_in_memory(
     alloc: Global,
-    files: MemoryDisk,
+    disk: FuseDisk<MemoryDisk>,
     tool: Tool<'_>,
     after: &[Step<'_>],
     trial: &mut Trial,
 ) -> Result<MemoryDisk, CaseFault> {
     let mut output = Vec::new(alloc);
     let input = input_of(alloc, after)?;
-    let hub = use_tool(
-        alloc,
-        files,
-        trial.blocks,
-        tool,
-        input.as_str(),
-        &mut output,
-    )?;
+    let hub = use_tool(alloc, disk, trial.blocks, tool, input.as_str(), &mut output)?;
     compare_told(alloc, tool, after, output.as_slice(), &mut trial.told)?;
-    Ok(hub.disk().copy()?)
+    Ok(hub.disk().inner().copy()?)
 }
 
 // A copy of these files, and with it those that the steps lay down.
@@ -143,12 +140,16 @@ fn lay_in_memory(
     Ok(())
 }
 
-// A disk that fails as the steps say, if they do.
-fn fused(alloc: Global, files: MemoryDisk, life: &[Step<'_>]) -> FuseDisk<MemoryDisk> {
-    let failure = life.iter().find_map(|step| match step {
+// How the steps say that the device fails, if they do.
+fn failure_in(life: &[Step<'_>]) -> Option<Failure> {
+    life.iter().find_map(|step| match step {
         Step::Fail(failure) => Some(*failure),
         _ => None,
-    });
+    })
+}
+
+// A disk that fails so.
+fn fused(alloc: Global, files: MemoryDisk, failure: Option<Failure>) -> FuseDisk<MemoryDisk> {
     let (base, calls, fuse) = match failure {
         None => (None, u64::MAX, Fuse::One),
         Some(failure) => (Some(failure.base), failure.calls, failure.fuse),

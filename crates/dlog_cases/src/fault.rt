@@ -1,7 +1,7 @@
 // Why a case fails, and why the program stops.
 use dl_app::ScriptFault;
 use dl_disk::ListFault;
-use dl_tool::ReportFault;
+use dl_tool::{ReportFault, StrayFault};
 use dl_types::{Fail, Name};
 use std::alloc::{AllocError, AllocFailed};
 use std::fmt::Write;
@@ -109,6 +109,15 @@ impl From<ReportFault> for CaseFault {
         match fault {
             ReportFault::Write => CaseFault::Tool,
             ReportFault::OutOfMemory => CaseFault::OutOfMemory,
+        }
+    }
+}
+
+impl From<StrayFault> for CaseFault {
+    fn from(fault: StrayFault) -> CaseFault {
+        match fault {
+            StrayFault::List | StrayFault::Device(_) => CaseFault::Tool,
+            StrayFault::OutOfMemory => CaseFault::OutOfMemory,
         }
     }
 }

@@ -3,11 +3,14 @@ use crate::case::Tool;
 use crate::fault::CaseFault;
 use dl_disk::{Disk, ListFault};
 use dl_hub::Hub;
-use dl_pipe::{Appended, Cut, Form, Gap, PipeFault, Source, append_items, dump_log, repair_log};
-use dl_tool::{
-    LogFiles, ReportFault, Style, check_logs, describe_log, find_logs, list_logs, logs_named,
+use dl_pipe::{
+    AppendArgs, Appended, Cut, DumpArgs, Form, Gap, PipeFault, Source, Spot, Syncs, append_items,
+    dump_log, repair_log,
 };
-use dl_types::{Base, Kind, Name, Size};
+use dl_tool::{
+    LogFiles, Style, check_logs, describe_log, find_logs, find_strays, list_logs, logs_named,
+};
+use dl_types::{Base, Item, Kind, Name, Size};
 use std::alloc::Global;
 use std::io::Write;
 
@@ -39,7 +42,9 @@ fn tell_of<D: Disk>(
     let others = tool.others;
     match tool.verb {
         "check" => {
-            check_logs(alloc, disk, &found, style_of(others), output)?;
+            let style = style_of(others);
+            check_logs(alloc, disk, &found, style, output)?;
+            tell_strays(alloc, disk, style, output)?;
             Ok(None)
         }
         "list" => {
@@ -52,6 +57,22 @@ fn tell_of<D: Disk>(
         }
         _ => Ok(Some(log_of(alloc, &found, others)?)),
     }
+}
+
+// Tells of the files that belong to no log, as a check does.
+fn tell_strays<D: Disk>(
+    alloc: Global,
+    disk: &mut D,
+    style: Style,
+    output: &mut Vec<u8>,
+) -> Result<(), CaseFault> {
+    for file in &find_strays(alloc, disk)? {
+        match style {
+            Style::Line => writeln!(output, "{file} stray: no index names it")?,
+            Style::Json => writeln!(output, "{{\"file\":\"{file}\",\"state\":\"stray\"}}")?,
+        }
+    }
+    Ok(())
 }
 
 // How a check is to tell.
@@ -89,13 +110,12 @@ fn work_on<D: Disk + Drop>(
     match tool.verb {
         "append" => {
             let mut input = input.as_bytes();
-            let size = size_of(tool.others)?;
-            let source = source_of(tool.others);
-            let done = append_items(alloc, hub, name, kind, size, false, source, &mut input);
+            let args = append_of(alloc, kind, tool.others)?;
+            let done = append_items(alloc, hub, name, args, &mut input);
             tell_append(done, output)
         }
         "dump" => {
-            let done = dump_log(alloc, hub, name, kind, form_of(tool.others), output);
+            let done = dump_log(alloc, hub, name, dump_of(kind, tool.others)?, output);
             tell_dump(done, output)
         }
         "repair" => tell_repair(repair_log(hub, name, kind), output),
@@ -103,37 +123,87 @@ fn work_on<D: Disk + Drop>(
     }
 }
 
+// How the words say that items are logged to a log of this kind.
+fn append_of(alloc: Global, kind: Kind, others: &str) -> Result<AppendArgs, CaseFault> {
+    let head = match value_of(others, " --head ") {
+        Some(text) => Some(item_of(alloc, text)?),
+        None => None,
+    };
+    let syncs = match value_of(others, " --sync-every ") {
+        Some(text) => Syncs::Every(number_of(text)?),
+        None => Syncs::Never,
+    };
+    Ok(AppendArgs {
+        kind,
+        size: size_of(others)?,
+        head,
+        syncs,
+        source: if others.contains(" --escaped") {
+            Source::Escaped
+        } else {
+            Source::Lines
+        },
+    })
+}
+
+// What the words say that is written of a log of this kind.
+fn dump_of(kind: Kind, others: &str) -> Result<DumpArgs, CaseFault> {
+    let from = match value_of(others, " --from ") {
+        Some(text) => Some(spot_of(text)?),
+        None => None,
+    };
+    let most = match value_of(others, " --most ") {
+        Some(text) => number_of(text)?,
+        None => u64::MAX,
+    };
+    Ok(DumpArgs {
+        kind,
+        from,
+        most,
+        form: if others.contains(" --hex") {
+            Form::Hex
+        } else {
+            Form::Escaped
+        },
+        places: others.contains(" --places"),
+    })
+}
+
+// The word behind an option, if that is there.
+fn value_of<'t>(others: &'t str, option: &str) -> Option<&'t str> {
+    let (_, behind) = others.split_once(option)?;
+    Some(behind.split(' ').next().unwrap_or(behind))
+}
+
+fn number_of(text: &str) -> Result<u64, CaseFault> {
+    text.parse().map_err(|_| CaseFault::BadTool)
+}
+
+// A place of the form GENERATION:ITEMS.
+fn spot_of(text: &str) -> Result<Spot, CaseFault> {
+    let (generation, before) = text.split_once(':').ok_or(CaseFault::BadTool)?;
+    Ok(Spot {
+        generation: number_of(generation)?,
+        before: number_of(before)?,
+    })
+}
+
+fn item_of(alloc: Global, text: &str) -> Result<Item, CaseFault> {
+    Item::of(text.as_bytes().to_vec(alloc)?).map_err(|_| CaseFault::BadTool)
+}
+
 // The size that the words ask for.
 fn size_of(others: &str) -> Result<Option<Size>, CaseFault> {
-    if let Some((_, text)) = others.split_once(" --size ") {
-        let bytes = text.parse().map_err(|_| CaseFault::BadTool)?;
-        return Ok(Some(Size::Limit(bytes)));
+    if let Some(text) = value_of(others, " --size ") {
+        return Ok(Some(Size::Limit(number_of(text)?)));
     }
-    let Some((_, text)) = others.split_once(" --wrap ") else {
+    let Some(text) = value_of(others, " --wrap ") else {
         return Ok(None);
     };
     let (bytes, files) = text.split_once('x').ok_or(CaseFault::BadTool)?;
-    let bytes = bytes.parse().map_err(|_| CaseFault::BadTool)?;
+    let bytes = number_of(bytes)?;
     let files = files.parse().map_err(|_| CaseFault::BadTool)?;
     Ok(Some(Size::Wrap { bytes, files }))
-}
-
-// How items stand in the input.
-fn source_of(others: &str) -> Source {
-    if others.ends_with(" --escaped") {
-        Source::Escaped
-    } else {
-        Source::Lines
-    }
-}
-
-// How items are written.
-fn form_of(others: &str) -> Form {
-    if others.ends_with(" --hex") {
-        Form::Hex
-    } else {
-        Form::Escaped
-    }
 }
 
 // Tells what an append came to.
