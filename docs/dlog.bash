@@ -6,8 +6,8 @@ _dlog() {
         return
     fi
     case $command in
-        append) options='--wrap --size --sync --escaped --raw --help' ;;
-        dump) options='--kind --hex --raw --help' ;;
+        append) options='--wrap --size --sync --sync-every --head --escaped --raw --help' ;;
+        dump) options='--kind --hex --raw --from --most --places --help' ;;
         check | list) options='--json --help' ;;
         info) options='--kind --json --help' ;;
         repair) options='--kind --dry-run --keep-bad --yes --help' ;;
