@@ -3,10 +3,9 @@ ghost use Rattle.std.specs.Prelude.{◌≡◌};
 ghost use Rattle.std.specs.Process.{exit_status};
 ghost use Rattle.dlog.specs.Status.{health_status};
 
-use crate::folder::{folder_word, logs_in, no_name, opened};
+use crate::folder::{FolderOfLogs, folder_word, logs_in, no_name, opened};
 use crate::{BUFFER_BYTES, UNCLEAN, UNREAD, tell};
 use clap::{Arg, ArgAction, ArgMatches, Command};
-use dl_disk::FolderDisk;
 use dl_tool::{
     Health, LogFiles, ReportFault, Style, check_logs, find_strays, list_logs, logs_named,
 };
@@ -100,11 +99,7 @@ fn try_check(
 }
 
 // Tells of the numbered files of a folder that no index names.
-fn tell_strays(
-    rt: &HostRuntime,
-    disk: &mut FolderDisk<HostRuntime>,
-    style: Style,
-) -> Result<(), ExitCode> {
+fn tell_strays(rt: &HostRuntime, disk: &mut FolderOfLogs, style: Style) -> Result<(), ExitCode> {
     let strays = match find_strays(rt.alloc(), disk) {
         Ok(strays) => strays,
         Err(fault) => return Err(tell(rt, fault, UNREAD)),
@@ -124,7 +119,7 @@ fn tell_strays(
 /// Checks these logs.
 pub fn check_these(
     rt: &HostRuntime,
-    disk: &mut FolderDisk<HostRuntime>,
+    disk: &mut FolderOfLogs,
     logs: &[LogFiles],
     style: Style,
 ) -> Result<ExitCode, ExitCode> {
@@ -152,7 +147,7 @@ fn try_list(rt: &HostRuntime, options: &ArgMatches<'_>) -> Result<ExitCode, Exit
 fn logs_asked(
     rt: &HostRuntime,
     options: &ArgMatches<'_>,
-    disk: &mut FolderDisk<HostRuntime>,
+    disk: &mut FolderOfLogs,
 ) -> Result<Vec<LogFiles>, ExitCode> {
     let found = logs_in(rt, disk)?;
     match options.get_strs("names") {

@@ -1,4 +1,5 @@
 // The folder of a command, and the logs in it.
+use crate::watched::WatchedDisk;
 use crate::{MISUSED, UNREAD, open_folder, tell};
 use clap::{Arg, ArgMatches, Command};
 use dl_disk::{FolderDisk, ListFault, OpenFault};
@@ -6,6 +7,9 @@ use dl_tool::{LogFiles, find_logs, logs_named};
 use dl_types::{Base, Kind, Name};
 use std::alloc::{AllocError, Global};
 use std::process::ExitCode;
+
+/// The disk over a folder of logs, which tells how far the work on it is.
+pub type FolderOfLogs = WatchedDisk<FolderDisk<HostRuntime>>;
 
 /// The word for the folder.
 pub fn folder_word<'a>(alloc: Global) -> Arg<'a> {
@@ -34,7 +38,7 @@ pub fn log_command<'a>(alloc: Global, name: &'a str) -> Result<Command<'a>, Allo
 pub struct NamedLog {
     pub log: Name,
     pub kind: Kind,
-    pub disk: FolderDisk<HostRuntime>,
+    pub disk: FolderOfLogs,
 }
 
 /// The log that the words of such a command name, or the status after it was told what is wrong with them.
@@ -46,15 +50,15 @@ pub fn log_in(rt: &HostRuntime, options: &ArgMatches<'_>) -> Result<NamedLog, Ex
 }
 
 /// The disk over the folder that the words name, or the status after it was told what is wrong with it.
-pub fn opened(
-    rt: &HostRuntime,
-    options: &ArgMatches<'_>,
-) -> Result<FolderDisk<HostRuntime>, ExitCode> {
+pub fn opened(rt: &HostRuntime, options: &ArgMatches<'_>) -> Result<FolderOfLogs, ExitCode> {
     let Some(path) = options.get_str("folder") else {
         return Err(ExitCode::from(MISUSED));
     };
     match open_folder(rt, path) {
-        Ok(disk) => Ok(disk),
+        Ok(disk) => match rt.clone() {
+            Ok(own) => Ok(WatchedDisk::new(own, disk)),
+            Err(error) => Err(tell(rt, error, UNREAD)),
+        },
         Err(OpenFault::InUse) => Err(tell(
             rt,
             "another program uses the folder: stop it first, or take a copy",
@@ -88,10 +92,7 @@ pub fn no_name(rt: &HostRuntime, name: &str) -> ExitCode {
 }
 
 /// The logs of a folder.
-pub fn logs_in(
-    rt: &HostRuntime,
-    disk: &mut FolderDisk<HostRuntime>,
-) -> Result<Vec<LogFiles>, ExitCode> {
+pub fn logs_in(rt: &HostRuntime, disk: &mut FolderOfLogs) -> Result<Vec<LogFiles>, ExitCode> {
     match find_logs(rt.alloc(), disk) {
         Ok(found) => Ok(found),
         Err(ListFault::Device) => Err(tell(rt, "the folder cannot be listed", UNREAD)),
@@ -100,11 +101,7 @@ pub fn logs_in(
 }
 
 // The kinds of the logs of this name that the folder has; that of a halt log if it has none.
-fn kinds_of(
-    rt: &HostRuntime,
-    disk: &mut FolderDisk<HostRuntime>,
-    log: Name,
-) -> Result<Vec<Kind>, ExitCode> {
+fn kinds_of(rt: &HostRuntime, disk: &mut FolderOfLogs, log: Name) -> Result<Vec<Kind>, ExitCode> {
     let found = logs_in(rt, disk)?;
     let own = match logs_named(rt.alloc(), &found, Base::of(log)) {
         Ok(own) => own,
@@ -120,7 +117,7 @@ fn kinds_of(
 /// said.
 pub fn kind_there(
     rt: &HostRuntime,
-    disk: &mut FolderDisk<HostRuntime>,
+    disk: &mut FolderOfLogs,
     log: Name,
     what: &str,
 ) -> Result<Kind, ExitCode> {
@@ -138,7 +135,7 @@ pub fn kind_there(
 fn kind_in(
     rt: &HostRuntime,
     options: &ArgMatches<'_>,
-    disk: &mut FolderDisk<HostRuntime>,
+    disk: &mut FolderOfLogs,
     log: Name,
 ) -> Result<Kind, ExitCode> {
     match options.get_str("kind") {

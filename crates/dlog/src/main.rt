@@ -13,6 +13,7 @@ mod dump;
 mod folder;
 mod info;
 mod repair;
+mod watched;
 
 use anyhow::Result;
 use clap::error::ErrorKind;
