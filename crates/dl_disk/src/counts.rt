@@ -27,7 +27,7 @@ pub(crate) fn know<A: Allocator + Copy>(
     Ok(())
 }
 
-/// Counts an answer that is a fault, and hands the answer on. At the greatest number a count stays.
+/// Counts an answer that is a fault, and returns the answer. A count stays at the greatest number.
 pub(crate) fn counted<T, E, A: Allocator>(
     counts: &mut FaultCounts<A>,
     base: Base,

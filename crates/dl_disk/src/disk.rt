@@ -12,12 +12,12 @@ use std::alloc::{AllocError, Allocator};
 /// The device that keeps the files of all logs.
 ///
 /// Contracts see its files as a finite map from names to bytes, and its faults as a count by base. What they say of
-/// files is said of an honest disk, one that answers what was written. A disk that has once been dishonest stays so.
+/// files holds of an honest disk, one that answers what was written. A disk that has once been dishonest stays so.
 pub trait Disk {
     /// What the disk is seen as: its files, whether it was honest so far, and its counts of faults.
     ghost state: { Self → DiskState };
 
-    /// Takes the place of a base's count, and keeps those that there are. It is no call of the device.
+    /// Starts counting the faults of a base, unless they are counted already. This does not call the device.
     fn know(&mut self, base: Base) -> Result<(), AllocError>
         ensures known { OnOk result (IsTrue ((state self.new).known base)) }
         ensures device { IsUncounted (state self.old) (state self.new) }

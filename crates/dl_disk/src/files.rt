@@ -25,7 +25,7 @@ pub(crate) fn text_of<A: Allocator>(files: &Files<A>, file: FileName) -> Option<
     }
 }
 
-/// Lays a file in the place of what was there.
+/// Puts a whole file in the place of what was there.
 pub(crate) fn lay<A: Allocator + Copy>(
     files: &mut Files<A>,
     file: FileName,
@@ -55,7 +55,7 @@ fn write_over<A: Allocator>(
     Ok(())
 }
 
-/// Writes into a file. If it fails, nothing has changed. Memory is wanted only past the end.
+/// Writes into a file. If it fails, nothing has changed. Only bytes past the end take memory.
 pub(crate) fn write<A: Allocator>(
     files: &mut Files<A>,
     file: FileName,
@@ -122,7 +122,7 @@ pub(crate) fn rename<A: Allocator + Copy>(
     Ok(())
 }
 
-/// Removes a file, if there is one. The others may change places.
+/// Removes a file, if there is one. The order of the others may change.
 pub(crate) fn remove<A: Allocator>(files: &mut Files<A>, file: FileName)
     ensures { content_of files.new.entries ≡ map.remove (content_of files.old.entries) file }
 {
@@ -140,7 +140,7 @@ pub(crate) fn names<A: Allocator, B: Allocator>(
     files.keys().copied().collect(alloc)
 }
 
-/// Copies bytes from an offset on, as many as there are and the buffer takes.
+/// Copies bytes from an offset on into a buffer, as many as there are and fit, and returns how many.
 pub fn copy_from(text: &[u8], at: u64, buffer: &mut [u8]) -> usize
     ensures within { result ≤ length buffer.old }
     ensures read { take result buffer.new ≡ take (length buffer.old) (drop at text.now) }

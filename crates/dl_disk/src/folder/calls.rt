@@ -65,8 +65,8 @@ impl<R: Files<File = File> + AllocGlobal + Clone + Drop> Folder<R> {
         Ok(self.path.join(self.rt.alloc(), name.as_str())?)
     }
 
-    // Opens what stands at a path. Where too many files are open for that, those that are kept are closed, the least
-    // recently used one first.
+    // Opens the file at a path. If too many files are open for that, those that are kept are closed, the least recently
+    // used one first.
     fn open_at(&mut self, path: Path<'_>, access: Access) -> io::Result<File>
         ensures { (other : FileName) → IsClosed self.old.kept.files.entries other → IsClosed self.new.kept.files.entries other }
     {

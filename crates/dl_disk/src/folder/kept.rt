@@ -21,7 +21,7 @@ pub(crate) struct Kept {
 }
 
 impl Kept {
-    /// No file is kept open to begin with. Room for all that may be is taken here.
+    /// No file is kept open to begin with. Room for all that may be kept is reserved here.
     pub(crate) fn new(alloc: Global) -> Result<Kept, AllocError>
         ensures { IfOk result (λ kept. kept.files.entries ≡ []) }
     {
@@ -66,7 +66,7 @@ impl Kept {
         }
     }
 
-    // Hands on the answer of a call on the file of this name. A fault closes the file.
+    // Returns the answer of a call on the file of this name. A fault closes the file.
     fn close_after<T>(&mut self, name: FileName, answer: io::Result<T>) -> io::Result<T>
         ensures same { result ≡ answer }
         ensures ok { OnOk result (self.new ≡ self.old) }
