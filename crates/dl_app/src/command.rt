@@ -27,7 +27,7 @@ pub enum Command<'a> {
     Flush,
 }
 
-/// A call on a log as its words write it: neither its items nor its place are there yet.
+/// A call on a log as its words give it, before its items are made and its place is looked up.
 #[derive(Clone, Copy)]
 pub enum Request<'a> {
     Open {
@@ -70,7 +70,7 @@ pub enum Request<'a> {
 pub enum Start {
     /// At the first item.
     First,
-    /// Behind what the client was last given of the log.
+    /// After what the client was last given of the log.
     Next,
 }
 

@@ -1,4 +1,4 @@
-// What a log tells about itself as text.
+// The info of a log as text.
 ghost use Rattle.std.specs.Prelude.{◌≡◌, ◌++◌, codes, IfErr, OnOk};
 ghost use Rattle.std.specs.Fmt.{decimal};
 ghost use Rattle.std.specs.List.{flat_map};
@@ -12,7 +12,7 @@ use dl_types::{Base, Extent, Info, Item, Kind, Mode, Name, Overflows, Owner, Siz
 use std::alloc::Allocator;
 use std::io::Write;
 
-/// Adds what a log tells about itself.
+/// Adds the info of a log.
 pub fn push_info<A: Allocator>(text: &mut Vec<u8, A>, info: &Info<A>) -> Result<(), ScriptFault>
     ensures text { OnOk result (text.new.items ≡ text.old.items ++ info_text info.now) }
     ensures fault { IfErr result (λ e. e ≡ ScriptFault.OutOfMemory) }
@@ -135,7 +135,7 @@ fn status_word(blocked: Option<bool>) -> &'static str
     }
 }
 
-// Adds what is told in read-write mode alone, if it is.
+// Adds the fields that only a log in read-write mode has, if it is one.
 fn push_more<A: Allocator>(
     text: &mut Vec<u8, A>,
     writing: &Option<Writing<A>>,
@@ -149,7 +149,7 @@ fn push_more<A: Allocator>(
     }
 }
 
-// Adds what is told in read-write mode alone.
+// Adds the fields that only a log in read-write mode has.
 fn push_writing<A: Allocator>(
     text: &mut Vec<u8, A>,
     writing: &Writing<A>,

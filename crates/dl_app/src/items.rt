@@ -22,7 +22,7 @@ static ITEM_BYTES: [u8; 256] = *b"\
 enum Written<'a> {
     // The bytes of the word.
     Plain(&'a [u8]),
-    // So many copies of one byte.
+    // A number of copies of one byte.
     Copies { count: u64, of: u8 },
 }
 
@@ -43,7 +43,7 @@ fn read_word(word: &[u8]) -> Written<'_>
     }
 }
 
-// Whether a byte may stand in a word that is an item's own bytes.
+// Whether a byte may be in a word that is an item's own bytes.
 fn is_item_byte(byte: u8) -> bool
     ensures { result ≡ is_item_byte byte }
 {

@@ -35,7 +35,7 @@ fn push_delivery<A: Allocator + Copy>(
     push_notice(text, delivery.notice())
 }
 
-// Adds a bar, and who is told of which log.
+// Adds a bar, the client and the log.
 fn push_told<A: Allocator>(
     text: &mut Vec<u8, A>,
     client: ClientId,

@@ -24,7 +24,7 @@ pub struct Places<A: Allocator> {
 }
 
 impl<A: Allocator + Copy> Places<A> {
-    /// No place was given yet. It takes no memory.
+    /// A table with no place. It takes no memory.
     pub fn new(alloc: A) -> Places<A>
         ensures { (c : ClientId) (l : Name) → place_of result c l ≡ Place.Start }
     {

@@ -58,7 +58,7 @@ pub fn run_script<R: BufRead, W: Write, D: Disk + Drop, A: Allocator + Copy>(
     ended
 }
 
-// A script under way. The text is the answer to one line.
+// A script that is being run. The text is the answer to one line.
 #[derive(Drop)]
 struct Session<A: Allocator + Copy> {
     alloc: A,

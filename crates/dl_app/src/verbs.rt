@@ -46,7 +46,7 @@ pub fn verb_of<'a>(verb: &[u8], words: Words<'a>) -> Option<Request<'a>>
     }
 }
 
-// The call of a verb that no word may follow.
+// The call of a verb that takes no words.
 fn bare_of<'a>(verb: &[u8], words: Words<'a>) -> Option<Request<'a>>
     ensures form { IfSome result (λ request. (verb.now ≡ request_word request) × GivesRequest (words_left words.entry) request) }
     ensures none { IfNone result ((request : Request) → verb.now ≡ request_word request → GivesRequest (words_left words.entry) request → takes_words request ≡ true) }

@@ -8,7 +8,7 @@ ghost use Rattle.dl_app.specs.Words.{words_of, words_in, words_left, number_in, 
 use dl_types::{ClientId, Size};
 use memchr::memchr;
 
-/// The words of a text, which one space parts. Two spaces in a row have the empty word between them.
+/// The words of a text, separated by one space each. Two spaces in a row have the empty word between them.
 #[derive(Clone, Copy)]
 pub struct Words<'a> {
     rest: Option<&'a [u8]>,
@@ -22,7 +22,7 @@ impl<'a> Words<'a> {
         Words { rest: Some(text) }
     }
 
-    /// Whether every word was taken.
+    /// Whether every word was read.
     pub fn is_empty(&self) -> bool
         ensures { result ≡ (length (words_left self.now) == 0) }
     {
