@@ -3,7 +3,7 @@ use dl_types::Item;
 use std::alloc::Global;
 use std::test::Fail;
 
-/// An item of so many copies of a byte.
+/// An item of `count` copies of a byte.
 #[derive(Clone, Copy)]
 pub struct Filled {
     pub byte: u8,

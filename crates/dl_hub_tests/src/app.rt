@@ -63,7 +63,7 @@ fn answers<R: Abort + AllocGlobal>(
     is_answered(rt, &mut input, text, ended)
 }
 
-// A text of so many copies of a byte, between two others.
+// A text of `count` copies of a byte, between two others.
 fn filled(
     alloc: Global,
     before: &[u8],

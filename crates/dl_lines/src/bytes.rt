@@ -6,7 +6,7 @@ use crate::fault::{LineFault, check_again};
 use std::alloc::Allocator;
 use std::io::BufRead;
 
-/// Reads so many bytes into the buffer, and tells whether the input had as many. Else the buffer has what was left.
+/// Reads `count` bytes into the buffer, and returns whether the input had as many. If not, the buffer has what was left.
 pub fn fill<R: BufRead, A: Allocator>(
     input: &mut R,
     count: usize,
@@ -28,7 +28,7 @@ pub fn fill<R: BufRead, A: Allocator>(
     Err(LineFault::Read)
 }
 
-// Adds what the input has ready, up to so many bytes, and tells whether the input is at its end. Nothing is added if
+// Adds what the input has ready, up to `most` bytes, and returns whether the input is at its end. Nothing is added if
 // the read was interrupted.
 fn read_some<R: BufRead, A: Allocator>(
     input: &mut R,

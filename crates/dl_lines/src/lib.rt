@@ -1,4 +1,4 @@
-//! What is read off a reader: lines of a bounded length, and so many bytes.
+//! What is read off a reader: lines of a bounded length, and a number of bytes.
 #![tactic(auto)]
 
 mod bytes;

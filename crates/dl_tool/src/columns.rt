@@ -155,7 +155,7 @@ fn push_last<A: Allocator + Copy>(text: &mut Vec<u8, A>, entry: Entry) -> Result
     push_bytes(text, own.as_slice())
 }
 
-// Adds so many blanks.
+// Adds `count` blanks.
 fn push_blanks<A: Allocator + Copy>(text: &mut Vec<u8, A>, count: usize) -> Result<(), AllocError>
     ensures { OnOk result (text.new.items ≡ text.old.items ++ replicate count 32) }
 {

@@ -146,7 +146,7 @@ fn push_log_cell<A: Allocator>(
     }
 }
 
-// Adds a number of a log, or a dash where it is not known.
+// Adds a number of a log, or a dash if it is not known.
 fn push_known_cell<A: Allocator>(
     text: &mut Vec<u8, A>,
     column: Column,

@@ -41,7 +41,7 @@ pub struct NamedLog {
     pub disk: FolderOfLogs,
 }
 
-/// The log that the words of such a command name, or the status after it was told what is wrong with them.
+/// The log that the words of such a command name, or the status after a message on what is wrong with them.
 pub fn log_in(rt: &HostRuntime, options: &ArgMatches<'_>) -> Result<NamedLog, ExitCode> {
     let log = named(rt, options)?;
     let mut disk = opened(rt, options)?;
@@ -49,7 +49,7 @@ pub fn log_in(rt: &HostRuntime, options: &ArgMatches<'_>) -> Result<NamedLog, Ex
     Ok(NamedLog { log, kind, disk })
 }
 
-/// The disk over the folder that the words name, or the status after it was told what is wrong with it.
+/// The disk over the folder that the words name, or the status after a message on what is wrong with it.
 pub fn opened(rt: &HostRuntime, options: &ArgMatches<'_>) -> Result<FolderOfLogs, ExitCode> {
     let Some(path) = options.get_str("folder") else {
         return Err(ExitCode::from(MISUSED));

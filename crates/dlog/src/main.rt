@@ -33,12 +33,12 @@ const BUFFER_BYTES: usize = 65_536;
 // The blocks of the cache of a command that opens one log.
 const BLOCKS: u32 = 16;
 
-// The status where the program could not do its work, and where what it was given is wrong.
+// The status if the program could not do its work, and if what it was given is wrong.
 const FAILED: u8 = 1;
 
 const MISUSED: u8 = 2;
 
-// The status where a log that was checked is not clean, and where it could not be read.
+// The status if a log that was checked is not clean, and if it could not be read.
 const UNCLEAN: u8 = 1;
 
 const UNREAD: u8 = 3;
@@ -153,7 +153,7 @@ fn run_over<D: Disk + Drop>(rt: &HostRuntime, disk: D, blocks: u32) -> ExitCode 
     end(rt, done)
 }
 
-// Says why a script was not run to its end, where it was not.
+// Says why a script was not run to its end, if it was not.
 fn end(rt: &HostRuntime, done: Result<(), ScriptFault>) -> ExitCode
     ensures { exit_status result ≡ status_after done }
 {
@@ -173,7 +173,7 @@ fn status_of(fault: ScriptFault) -> u8
     }
 }
 
-// Says what went wrong on standard error. Where that is closed too, the status alone says it.
+// Says what went wrong on standard error. If that is closed too, the status alone says it.
 fn tell(rt: &HostRuntime, what: impl Display + Drop, status: u8) -> ExitCode
     ensures { exit_status result ≡ status }
 {

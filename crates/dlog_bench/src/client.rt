@@ -38,7 +38,7 @@ impl<D: Disk + Drop> Client<'_, D> {
         Ok(reply)
     }
 
-    // Does events, and answers how long they took.
+    // Does events, and returns how long they took.
     fn time(&mut self, events: Vec<Event>) -> Result<Duration, Fault> {
         let start = Instant::now(self.bench.rt)?;
         for event in events {
@@ -70,7 +70,7 @@ impl<D: Disk + Drop> Client<'_, D> {
         Ok(spent)
     }
 
-    /// Logs items to open logs in turn, so many a call, and writes what waits. Answers how long that took.
+    /// Logs items to open logs in turn, `each` a call, and writes what waits. Returns how long that took.
     pub fn append(&mut self, logs: &[Name], each: u64) -> Result<Duration, Fault> {
         let calls = self.bench.items.div_ceil(each.max(1));
         let mut spent = Duration::ZERO;
@@ -87,7 +87,7 @@ impl<D: Disk + Drop> Client<'_, D> {
         Ok(spent)
     }
 
-    /// Reads a log from its first item to its last, each of which is looked at and let go. Answers how long that took.
+    /// Reads a log from its first item to its last, each of which is looked at and dropped. Returns how long that took.
     pub fn read(&mut self, log: Name) -> Result<Duration, Fault> {
         let start = Instant::now(self.bench.rt)?;
         let (mut from, mut passed) = (Place::Start, 0u64);
@@ -129,7 +129,7 @@ impl Bench<'_> {
         Ok(events)
     }
 
-    // The event that logs items from this number on, each its number and a filling, or a flush where there is none.
+    // The event that logs items from this number on, each its number and a filling, or a flush if there is none.
     fn event(&self, log: Name, first: u64, each: u64) -> Result<Event, Fault> {
         let mut items = Vec::new(self.rt.alloc());
         for number in first..self.items.min(first.saturating_add(each)) {

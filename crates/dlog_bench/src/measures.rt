@@ -93,7 +93,7 @@ fn clear_set(bench: Bench<'_>, log: &str) -> Result<(), Fault> {
     Ok(())
 }
 
-// Removes a file, and answers whether it was there.
+// Removes a file, and returns whether it was there.
 fn remove(bench: Bench<'_>, path: &str) -> Result<bool, Fault> {
     match fs::remove_file(bench.rt, path) {
         Ok(()) => Ok(true),
@@ -102,7 +102,7 @@ fn remove(bench: Bench<'_>, path: &str) -> Result<bool, Fault> {
     }
 }
 
-// The measures over the folder. The first hub is let go with logs open, as a stop lets it go.
+// The measures over the folder. The first hub is dropped with logs open, as at a stop.
 fn measure_folder(bench: Bench<'_>) -> Result<(), Fault> {
     measure(bench, disk(bench))?;
     tear(bench)?;

@@ -35,7 +35,7 @@ pub fn heard_of(alloc: Global, answer: &str, log: &str) -> Result<String, AllocE
     Ok(text)
 }
 
-// Whether this is a notice of this log: its client stands before the log, behind a space.
+// Whether this is a notice of this log: its client stands before the log, after a space.
 fn is_notice_of(notice: &str, log: &str) -> bool {
     notice
         .split(' ')

@@ -29,7 +29,7 @@ pub struct LaidFile<'a> {
     pub digits: &'a str,
 }
 
-/// A failure of the device: after so many calls on the files of a base one call fails, or each.
+/// A failure of the device: after `calls` calls on the files of a base one call fails, or each.
 #[derive(Clone, Copy)]
 pub struct Failure {
     pub base: Base,

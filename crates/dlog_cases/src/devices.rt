@@ -1,4 +1,4 @@
-// A case over the disk in memory, behind a fuse, and over a folder.
+// A case over the disk in memory, under a fuse, and over a folder.
 use crate::alone::{alone, private_logs};
 use crate::answer::bytes_of;
 use crate::case::{Failure, Step, Tool};

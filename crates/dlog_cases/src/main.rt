@@ -42,7 +42,7 @@ fn tell(rt: &HostRuntime, stop: Stop) -> ExitCode {
     }
 }
 
-// Takes the one word behind the name of the program.
+// Takes the one word after the name of the program.
 fn run(rt: &HostRuntime) -> Result<bool, Stop> {
     let mut words = env::args(rt).map_err(|_| Stop::Misused)?.skip(1);
     match (words.next(), words.next()) {

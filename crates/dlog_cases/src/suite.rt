@@ -33,7 +33,7 @@ pub fn run_suite(rt: &HostRuntime, folder: &str, tally: &mut Tally) -> io::Resul
     println!(rt; "{cases} cases, {answers} answers, {logs} logs alone, {failed} failed")
 }
 
-// Where the folders of the cases are made, one after another.
+// The folder in which the folders of the cases are made, one after another.
 fn room_of(rt: &HostRuntime) -> io::Result<PathBuf> {
     let name = format!(in rt.alloc(); "dlog_cases-{}", process::id(rt.process()))?;
     let path = env::temp_dir(rt)?.join(rt.alloc(), name.as_str())?;

@@ -169,7 +169,7 @@ fn dump_of(kind: Kind, others: &str) -> Result<DumpArgs, CaseFault> {
     })
 }
 
-// The word behind an option, if that is there.
+// The word after an option, if that is there.
 fn value_of<'t>(others: &'t str, option: &str) -> Option<&'t str> {
     let (_, behind) = others.split_once(option)?;
     Some(behind.split(' ').next().unwrap_or(behind))

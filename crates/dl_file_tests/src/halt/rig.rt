@@ -40,7 +40,7 @@ pub struct Asked {
 }
 
 impl Asked {
-    /// A log that may be written, repaired where it needs that, with a limit in bytes.
+    /// A log that may be written, repaired if it needs that, with a limit in bytes.
     pub fn limited(limit: u64) -> Asked {
         Asked {
             mode: Mode::ReadWrite,

@@ -58,7 +58,7 @@ impl BufRead for Pieces<'_> {
     }
 }
 
-// Takes so many bytes, and then fails.
+// Takes a number of bytes, and then fails.
 #[derive(Drop)]
 pub struct Room {
     pub left: usize,
