@@ -164,7 +164,8 @@ impl<A: Allocator + Copy> Session<A> {
             × Appends (W.contents output.old) (W.contents output.new) answer) }
         ensures fault { IfErr result IsAnswerFault }
     {
-        let outcome = hub.step(Event::Call { client, log, call });
+        let event = Event::Call { client, log, call };
+        let outcome = hub.apply(&event);
         self.places.keep_after(client, log, &outcome.reply)?;
         put_outcome(&mut self.text, &outcome)?;
         write_answer(self.text.as_slice(), output)

@@ -42,7 +42,7 @@ impl<D: Disk + Drop> Client<'_, D> {
     fn time(&mut self, events: Vec<Event>) -> Result<Duration, Fault> {
         let start = Instant::now(self.bench.rt)?;
         for event in events {
-            check(&self.hub.step(event).reply)?;
+            check(&self.hub.apply(&event).reply)?;
         }
         Ok(start.elapsed(self.bench.rt)?)
     }
