@@ -1,5 +1,5 @@
 // The words of a call after the name of its log.
-ghost use Rattle.std.specs.Prelude.{◌≡◌, ℕ, ℤ, Bool, true, List, Option, IfSome, IfNone, codes};
+ghost use Rattle.std.specs.Prelude.{◌≡◌, ◌≢◌, ℕ, ℤ, Bool, true, List, Option, IfSome, IfNone, codes};
 ghost use Rattle.std.specs.Borrow.{Bor};
 ghost use Rattle.std.specs.List.{list_all};
 ghost use Rattle.dl_types.specs.declared.size.Size.{Size};
@@ -23,10 +23,21 @@ pub fn verb_of<'a>(verb: &[u8], words: Words<'a>) -> Option<Request<'a>>
     ensures form { IfSome result (λ request. (verb.now ≡ request_word request) × GivesRequest (words_left words.entry) request) }
     ensures none { IfNone result ((request : Request) → verb.now ≡ request_word request → GivesRequest (words_left words.entry) request → ⊥) }
 {
+    if verb == b"log".as_slice() {
+        return are_items(words).then_some(Request::Log(words));
+    }
+    other_of(verb, words)
+}
+
+// The call of another verb than the one that comes most.
+#[inline(never)]
+fn other_of<'a>(verb: &[u8], words: Words<'a>) -> Option<Request<'a>>
+    requires { verb.now ≢ codes "log" }
+    ensures form { IfSome result (λ request. (verb.now ≡ request_word request) × GivesRequest (words_left words.entry) request) }
+    ensures none { IfNone result ((request : Request) → verb.now ≡ request_word request → GivesRequest (words_left words.entry) request → ⊥) }
+{
     if verb == b"open".as_slice() {
         open_of(words)
-    } else if verb == b"log".as_slice() {
-        are_items(words).then_some(Request::Log(words))
     } else if verb == b"alog".as_slice() {
         are_items(words).then_some(Request::Alog(words))
     } else if verb == b"chunk".as_slice() {
