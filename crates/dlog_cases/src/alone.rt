@@ -2,14 +2,14 @@
 use crate::case::{BAD_LINE, Line, Step};
 use std::alloc::{AllocError, Global};
 
-// What a line is to a log.
+/// What a line is to a log.
 #[derive(Clone, Copy)]
-enum Deed<'a> {
+pub enum Deed<'a> {
     Call { client: &'a str, log: &'a str },
     Exit { client: &'a str },
-    // A bad line ends the script for every log.
+    /// A bad line ends the script for every log.
     BadLine,
-    // A flush, or a file that is shown.
+    /// A flush, or a file that is shown.
     Other,
 }
 
@@ -20,8 +20,8 @@ struct NamedBase<'a> {
     base: &'a str,
 }
 
-// What a line does.
-fn deed_of(line: Line<'_>) -> Deed<'_> {
+/// What a line does.
+pub fn deed_of(line: Line<'_>) -> Deed<'_> {
     if line.answer == BAD_LINE {
         return Deed::BadLine;
     }

@@ -37,6 +37,14 @@ pub struct Failure {
     pub fuse: Fuse,
 }
 
+/// A sweep: the case is also run with a device that fails at each of its calls on the files of a base in turn.
+#[derive(Clone, Copy)]
+pub struct Sweep {
+    /// The number of the line in the case's file, counted from 1.
+    pub number: u64,
+    pub base: Base,
+}
+
 /// A command on the files that a hub leaves.
 #[derive(Clone, Copy)]
 pub struct Tool<'a> {
@@ -51,6 +59,7 @@ pub struct Tool<'a> {
 pub enum Step<'a> {
     /// The case is run with these numbers of blocks.
     Blocks(&'a str),
+    Sweep(Sweep),
     File(LaidFile<'a>),
     Fail(Failure),
     Line(Line<'a>),
@@ -177,6 +186,10 @@ fn order_of(text: &str, number: u64) -> Option<Step<'_>> {
     let (order, others) = text.split_once(' ').unwrap_or((text, ""));
     match order {
         "blocks" => Some(Step::Blocks(others)),
+        "sweep" => Some(Step::Sweep(Sweep {
+            number,
+            base: Base::parse(others.as_bytes())?,
+        })),
         "file" => Some(Step::File(file_of(others)?)),
         "fail" => Some(Step::Fail(failure_of(others)?)),
         "mend" => Some(Step::Mend),
@@ -219,7 +232,7 @@ fn fuse_of(word: &str) -> Option<Fuse> {
 // Whether a step comes after a line of its hub and has to stand before.
 fn is_late(steps: &[Step<'_>], step: Step<'_>) -> bool {
     match step {
-        Step::Blocks(_) => steps.iter().any(|step| !is_setting(*step)),
+        Step::Blocks(_) | Step::Sweep(_) => steps.iter().any(|step| !is_setting(*step)),
         Step::File(_) | Step::Fail(_) => {
             let begun = steps.iter().rev().find(|step| !is_setting(**step));
             begun.is_some_and(|step| !matches!(step, Step::Again))
@@ -230,7 +243,10 @@ fn is_late(steps: &[Step<'_>], step: Step<'_>) -> bool {
 
 // Whether a step says how a hub begins.
 fn is_setting(step: Step<'_>) -> bool {
-    matches!(step, Step::Blocks(_) | Step::File(_) | Step::Fail(_))
+    matches!(
+        step,
+        Step::Blocks(_) | Step::Sweep(_) | Step::File(_) | Step::Fail(_)
+    )
 }
 
 /// The numbers of blocks that a case is run with.

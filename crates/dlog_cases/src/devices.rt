@@ -119,8 +119,8 @@ fn use_one_in_memory(
     Ok(hub.disk().inner().copy()?)
 }
 
-// A copy of these files, and with it those that the steps lay down.
-fn laid(alloc: Global, files: &MemoryDisk, life: &[Step<'_>]) -> Result<MemoryDisk, CaseFault> {
+/// A copy of these files, and with it those that the steps lay down.
+pub fn laid(alloc: Global, files: &MemoryDisk, life: &[Step<'_>]) -> Result<MemoryDisk, CaseFault> {
     let mut own = files.copy()?;
     lay_in_memory(alloc, &mut own, life)?;
     Ok(own)
@@ -148,8 +148,8 @@ fn failure_in(life: &[Step<'_>]) -> Option<Failure> {
     })
 }
 
-// A disk that fails so.
-fn fused(alloc: Global, files: MemoryDisk, failure: Option<Failure>) -> FuseDisk<MemoryDisk> {
+/// A disk that fails so.
+pub fn fused(alloc: Global, files: MemoryDisk, failure: Option<Failure>) -> FuseDisk<MemoryDisk> {
     let (base, calls, fuse) = match failure {
         None => (None, u64::MAX, Fuse::One),
         Some(failure) => (Some(failure.base), failure.calls, failure.fuse),

@@ -1,8 +1,8 @@
 // Why a case fails, and why the program stops.
 use dl_app::ScriptFault;
-use dl_disk::ListFault;
+use dl_disk::{Fuse, ListFault};
 use dl_tool::{ReportFault, StrayFault};
-use dl_types::{Fail, Name};
+use dl_types::{Base, Fail, Name};
 use std::alloc::{AllocError, AllocFailed};
 use std::fmt::Write;
 use std::{fmt, io};
@@ -40,6 +40,22 @@ pub enum CaseFault {
     BadBlocks,
     #[error("the bytes of a file are not in hexadecimal")]
     BadBytes,
+    #[error("line {0} is about a base whose files no call is on")]
+    NoCall(u64),
+    #[error("line {0} finds no run in which no call fails")]
+    NoEnd(u64),
+    #[error("line {0} has a fault that loses items")]
+    Loses(u64),
+    #[error("line {0} has a fault after which a sync or a close is not done")]
+    NotDone(u64),
+    #[error("line {0} has a fault after which a sync or a close does not keep the items")]
+    NotKept(u64),
+    #[error("the files that a fault leaves are not opened")]
+    NotOpened,
+    #[error("a log has more files or items than a sweep reads")]
+    Unread,
+    #[error("an answer is no text")]
+    NoText,
     #[error("the script ended: {0}")]
     Script(ScriptFault),
     #[error("no hub: {0}")]
@@ -75,6 +91,8 @@ pub enum How {
     Folder,
     /// One of its logs alone, in memory.
     Alone(Option<Name>),
+    /// In memory, with a device that fails after so many calls on the files of a base.
+    Failing { base: Base, calls: u64, fuse: Fuse },
 }
 
 impl How {
@@ -91,7 +109,19 @@ impl fmt::Display for How {
             How::Folder => f.write_str("in a folder"),
             How::Alone(None) => f.write_str("a log alone"),
             How::Alone(Some(log)) => write!(f, "log {log} alone"),
+            How::Failing { base, calls, fuse } => {
+                let count = count_of(*fuse);
+                write!(f, "{count} failing after {calls} calls at {base}")
+            }
         }
+    }
+}
+
+// How many calls fail once a fuse blows, in the words of a case.
+fn count_of(fuse: Fuse) -> &'static str {
+    match fuse {
+        Fuse::One => "one",
+        Fuse::All => "all",
     }
 }
 

@@ -8,6 +8,7 @@ mod devices;
 mod fault;
 mod script;
 mod suite;
+mod sweep;
 mod told;
 mod tools;
 

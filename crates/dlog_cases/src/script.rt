@@ -32,8 +32,8 @@ pub fn run_lines<D: Disk + Drop>(
     Ok(())
 }
 
-// The lines among these steps.
-fn lines_of<'a>(alloc: Global, steps: &[Step<'a>]) -> Result<Vec<Line<'a>>, AllocError> {
+/// The lines among these steps.
+pub fn lines_of<'a>(alloc: Global, steps: &[Step<'a>]) -> Result<Vec<Line<'a>>, AllocError> {
     steps
         .iter()
         .filter_map(|step| match step {
@@ -74,8 +74,8 @@ fn answer<D: Disk + Drop>(
     }
 }
 
-// The text of a script with these lines.
-fn script_of(alloc: Global, lines: &[Line<'_>]) -> Result<String, AllocError> {
+/// The text of a script with these lines.
+pub fn script_of(alloc: Global, lines: &[Line<'_>]) -> Result<String, AllocError> {
     let mut text = String::new(alloc);
     for line in lines {
         text.push_str(line.text)?;
@@ -108,8 +108,8 @@ fn wanted_of(alloc: Global, line: Line<'_>) -> Result<String, AllocError> {
     }
 }
 
-// Compares the answer to a line with the one that is wanted.
-fn compare_one(
+/// Compares the answer to a line with the one that is wanted.
+pub fn compare_one(
     alloc: Global,
     line: Line<'_>,
     given: &[u8],

@@ -2,6 +2,7 @@
 use crate::case::{Step, blocks_of, count_answers, has_failure, steps_of};
 use crate::devices::{Trial, run_in_folder, run_in_memory};
 use crate::fault::{CaseFault, How};
+use crate::sweep::run_sweeps;
 use std::path::{Path, PathBuf};
 use std::{env, fs, io, process};
 
@@ -127,7 +128,7 @@ fn run_case(
     Ok(count_answers(steps.as_slice()))
 }
 
-// Runs the steps of a case in memory, and in a folder if its device does not fail.
+// Runs the steps of a case in memory, under each failure of its sweeps, and in a folder if its device does not fail.
 fn run_steps(
     rt: &HostRuntime,
     steps: &[Step<'_>],
@@ -135,6 +136,7 @@ fn run_steps(
     trial: &mut Trial,
 ) -> Result<(), CaseFault> {
     run_in_memory(rt.alloc(), steps, trial)?;
+    run_sweeps(rt.alloc(), steps, trial)?;
     if has_failure(steps) {
         return Ok(());
     }

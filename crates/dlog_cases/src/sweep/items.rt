@@ -1,0 +1,186 @@
+// What a log has as the answers of a probe tell it, and what a fault may leave of it.
+use crate::answer::expanded;
+use crate::fault::CaseFault;
+use std::alloc::{AllocError, Global};
+use std::fmt::Write;
+
+/// How many answers a probe has. A log is read through if it has one file fewer, of at most 65,536 bytes each.
+pub const PROBE_ANSWERS: usize = 6;
+
+/// What a probe of a log that is not open tells.
+pub const NO_LOG: &str = "E2 no_such_log";
+
+/// What an open of a log answers that needs no repair.
+pub const OPENED: &str = "opened";
+
+/// The client of a probe, who has no part in the log.
+pub const STRANGER: u32 = u32::MAX;
+
+// How many items a chunk of a probe reads at most.
+const MOST_ITEMS: u32 = 1_000_000;
+
+// What stands before the items that a probe found.
+const ITEMS: &str = "items";
+
+/// The lines that read all items of a log.
+pub fn probe_of(alloc: Global, log: &str) -> Result<String, AllocError> {
+    let mut text = String::new(alloc);
+    for at in 0..PROBE_ANSWERS {
+        let place = if at == 0 { "start" } else { "next" };
+        writeln!(text, "{STRANGER} chunk {log} {place} {MOST_ITEMS}")?;
+    }
+    Ok(text)
+}
+
+/// Answers, one by one.
+pub fn answers_of(alloc: Global, text: &str) -> Result<Vec<&str>, AllocError> {
+    text.lines().collect(alloc)
+}
+
+/// What the answers of a probe say that a log has: `items` and its items in hexadecimal, or what was refused.
+///
+/// Only as many answers are read as a probe has.
+pub fn seen_in(alloc: Global, answers: &[&str]) -> Result<String, CaseFault> {
+    let mut text = String::from_str(alloc, ITEMS)?;
+    for answer in answers.iter().take(PROBE_ANSWERS) {
+        if *answer == "eof" {
+            return Ok(text);
+        }
+        match answer.strip_prefix("items ") {
+            Some(others) => push_items(&mut text, others)?,
+            None => return refused(alloc, answer),
+        }
+    }
+    Err(CaseFault::Unread)
+}
+
+// What a probe that was refused tells.
+fn refused(alloc: Global, answer: &str) -> Result<String, CaseFault> {
+    Ok(String::from_str(alloc, answer)?)
+}
+
+// Adds the items of an answer, which stand after the number of bad bytes.
+fn push_items(text: &mut String, others: &str) -> Result<(), AllocError> {
+    for word in others.split(' ').skip(1) {
+        text.push(' ')?;
+        text.push_str(word)?;
+    }
+    Ok(())
+}
+
+/// The call that a line makes, if it makes one.
+pub fn verb_of(line: &str) -> Option<&str> {
+    line.split(' ').skip(1).next()
+}
+
+// Whether a log may have ended after a fault within a line.
+fn may_end(line: &str) -> bool {
+    matches!(verb_of(line), Some("open" | "close" | "exit" | "reopen"))
+}
+
+/// Whether a log may have this after a line that answered a fault, by what it had before the line and has after it without a fault: all
+/// of the one or of the other, or what a call that adds items one by one had come to.
+pub fn is_left(
+    alloc: Global,
+    line: &str,
+    answer: &str,
+    before: &str,
+    after: &str,
+    has: &str,
+) -> Result<bool, AllocError> {
+    if has == NO_LOG {
+        return Ok(may_end(line));
+    }
+    if has == before || has == after {
+        return Ok(true);
+    }
+    if !matches!(verb_of(line), Some("log" | "alog" | "nextfile")) {
+        return Ok(false);
+    }
+    let all = with_sent(alloc, before, line)?;
+    is_midway(alloc, before, all.as_str(), lost_in(answer), has)
+}
+
+// The items of a log, and behind them those that a line sends.
+fn with_sent(alloc: Global, before: &str, line: &str) -> Result<String, AllocError> {
+    let mut text = String::from_str(alloc, before)?;
+    for word in line.split(' ').skip(3) {
+        text.push(' ')?;
+        push_item(alloc, &mut text, word)?;
+    }
+    Ok(text)
+}
+
+// Adds an item of a script as an answer writes it.
+fn push_item(alloc: Global, text: &mut String, word: &str) -> Result<(), AllocError> {
+    let item = expanded(alloc, word)?;
+    if item.is_empty() {
+        return text.push('-');
+    }
+    let digits = hex::encode(alloc, item.as_str())?;
+    text.push_str(digits.as_str())
+}
+
+// How many items the files had that went, by the notices of an answer.
+fn lost_in(answer: &str) -> usize {
+    let mut lost = 0usize;
+    for notice in answer.split(" | ").skip(1) {
+        lost = lost.saturating_add(lost_by(notice).unwrap_or(0));
+    }
+    lost
+}
+
+// How many items went by this notice, if it tells that.
+fn lost_by(notice: &str) -> Option<usize> {
+    let (_, count) = notice.split_once(" wrap ")?;
+    count.parse::<usize>().ok()
+}
+
+// Whether items are some of the first of all, without as many as were lost, and with the last of those before.
+fn is_midway(
+    alloc: Global,
+    before: &str,
+    all: &str,
+    lost: usize,
+    has: &str,
+) -> Result<bool, AllocError> {
+    let before = items_of(alloc, before)?;
+    let all = items_of(alloc, all)?;
+    let has = items_of(alloc, has)?;
+    let left = all.as_slice().get(lost..).unwrap_or(&[]);
+    let count = lost.saturating_add(has.len());
+    Ok(before.len() <= count && left.starts_with(has.as_slice()))
+}
+
+// The items that a probe found, one by one.
+fn items_of(alloc: Global, seen: &str) -> Result<Vec<&str>, AllocError> {
+    seen.split(' ').skip(1).collect(alloc)
+}
+
+/// Whether an answer is `done`, maybe with notices.
+pub fn is_done(answer: &str) -> bool {
+    answer == "done" || answer.starts_with("done | ")
+}
+
+/// The answer to the first of two opens, or to the second if the log has another size than the first asks for.
+pub fn opened_in(answers: &str) -> &str {
+    let mut lines = answers.lines();
+    let first = lines.next().unwrap_or("");
+    if first.starts_with("E5 ") {
+        return lines.next().unwrap_or("");
+    }
+    first
+}
+
+/// Whether an open repaired a log.
+pub fn is_repaired(answer: &str) -> bool {
+    answer.starts_with("repaired ")
+}
+
+/// Whether an open did not take files for damaged: it found a log, or no file, or one that it was not to repair.
+pub fn is_sound(answer: &str) -> bool {
+    answer == OPENED
+        || is_repaired(answer)
+        || answer.starts_with("E9 ")
+        || answer.starts_with("E12 ")
+}
