@@ -119,15 +119,15 @@ fn use_one_in_memory(
     Ok(hub.disk().inner().copy()?)
 }
 
-/// A copy of these files, and with it those that the steps lay down.
-pub fn laid(alloc: Global, files: &MemoryDisk, life: &[Step<'_>]) -> Result<MemoryDisk, CaseFault> {
+// A copy of these files, and with it those that the steps lay down.
+fn laid(alloc: Global, files: &MemoryDisk, life: &[Step<'_>]) -> Result<MemoryDisk, CaseFault> {
     let mut own = files.copy()?;
     lay_in_memory(alloc, &mut own, life)?;
     Ok(own)
 }
 
-// Lays down the files of a hub.
-fn lay_in_memory(
+/// Lays down the files of a hub.
+pub fn lay_in_memory(
     alloc: Global,
     files: &mut MemoryDisk,
     life: &[Step<'_>],

@@ -4,12 +4,12 @@ mod items;
 mod judge;
 mod run;
 
-use self::course::{Course, Texts, records_of, texts_of};
+use self::course::{Course, records_of, texts_of};
 use self::items::verb_of;
 use self::judge::judge;
 use crate::alone::{Deed, deed_of};
 use crate::case::{Failure, Line, Step, Sweep};
-use crate::devices::{Trial, laid};
+use crate::devices::{Trial, lay_in_memory};
 use crate::fault::{CaseFault, How};
 use dl_disk::{Fuse, MemoryDisk};
 use std::alloc::Global;
@@ -34,10 +34,38 @@ fn run_sweep(
     sweep: Sweep,
     trial: &mut Trial,
 ) -> Result<(), CaseFault> {
+    let course = course_of(alloc, steps, sweep, trial)?;
+    sweep_fuses(&course, trial)
+}
+
+// What is swept: the lines on the files that the steps lay down, and what they come to with no fault.
+fn course_of<'a>(
+    alloc: Global,
+    steps: &[Step<'a>],
+    sweep: Sweep,
+    trial: &mut Trial,
+) -> Result<Course<'a>, CaseFault> {
     let log = swept_log(steps).ok_or(CaseFault::BadOrder(sweep.number))?;
     let texts = texts_of(alloc, steps, log)?;
-    let files = laid(alloc, &MemoryDisk::new(alloc), steps)?;
-    sweep_files(alloc, sweep, log, &texts, &files, trial)
+    let files = files_of(alloc, steps)?;
+    let blocks = trial.blocks;
+    let records = records_of(alloc, blocks, &texts, &files, &mut trial.told)?;
+    Ok(Course {
+        alloc,
+        blocks,
+        sweep,
+        log,
+        texts,
+        files,
+        records,
+    })
+}
+
+// The files that the steps lay down.
+fn files_of(alloc: Global, steps: &[Step<'_>]) -> Result<MemoryDisk, CaseFault> {
+    let mut files = MemoryDisk::new(alloc);
+    lay_in_memory(alloc, &mut files, steps)?;
+    Ok(files)
 }
 
 // The log that a case is about if it may be swept: it has one hub and no command, and client 1 opens the log, in its first line.
@@ -77,28 +105,6 @@ fn may_be_swept(step: Step<'_>, log: &str) -> bool {
     }
 }
 
-// Runs a sweep on these files.
-fn sweep_files(
-    alloc: Global,
-    sweep: Sweep,
-    log: &str,
-    texts: &Texts<'_>,
-    files: &MemoryDisk,
-    trial: &mut Trial,
-) -> Result<(), CaseFault> {
-    let records = records_of(alloc, trial.blocks, texts, files, &mut trial.told)?;
-    let course = Course {
-        alloc,
-        blocks: trial.blocks,
-        sweep,
-        log,
-        texts,
-        files,
-        records: records.as_slice(),
-    };
-    sweep_fuses(&course, trial)
-}
-
 // Lets one call fail, and then all from one on.
 fn sweep_fuses(course: &Course<'_>, trial: &mut Trial) -> Result<(), CaseFault> {
     for fuse in [Fuse::One, Fuse::All] {
@@ -136,6 +142,6 @@ fn try_failure(
     told: &mut String,
 ) -> Result<bool, CaseFault> {
     let script = course.texts.script.as_str();
-    let run = course.run(course.files, Some(failure), script, "")?;
+    let run = course.run(&course.files, Some(failure), script, "")?;
     judge(course, failure, &run, told)
 }

@@ -39,16 +39,16 @@ pub struct Record<'a> {
 }
 
 /// A sweep at a base.
-#[derive(Clone, Copy)]
+#[derive(Drop)]
 pub struct Course<'a> {
     pub alloc: Global,
     pub blocks: u32,
     pub sweep: Sweep,
     pub log: &'a str,
-    pub texts: &'a Texts<'a>,
+    pub texts: Texts<'a>,
     /// The files that the hub begins with.
-    pub files: &'a MemoryDisk,
-    pub records: &'a [Record<'a>],
+    pub files: MemoryDisk,
+    pub records: Vec<Record<'a>>,
 }
 
 impl Course<'_> {
@@ -65,9 +65,10 @@ impl Course<'_> {
 
     /// What the log had before a line.
     pub fn items_before(&self, at: usize) -> &str {
-        at.checked_sub(1)
-            .and_then(|at| self.records.get(at))
-            .map_or(NO_LOG, |record| record.items.as_str())
+        match at.checked_sub(1).and_then(|at| self.records.get(at)) {
+            None => NO_LOG,
+            Some(record) => record.items.as_str(),
+        }
     }
 
     /// The lines that read all items of the log and then end a run.

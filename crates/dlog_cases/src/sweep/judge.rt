@@ -32,7 +32,7 @@ pub fn judge(
     if run.calls <= failure.calls {
         return Ok(false);
     }
-    let other = first_other(course.records, run.first.as_str());
+    let other = first_other(course.records.as_slice(), run.first.as_str());
     if let Some(other) = &other {
         judge_line(course, failure, other, told)?;
     }
@@ -103,7 +103,7 @@ fn try_lines(
     told: &mut String,
 ) -> Result<(), CaseFault> {
     let look = course.look(end);
-    let run = course.run(course.files, Some(failure), script, look)?;
+    let run = course.run(&course.files, Some(failure), script, look)?;
     judge_left(course, other, &run, end, told)
 }
 
@@ -216,6 +216,9 @@ fn judge_open(other: &Option<Other<'_>>, answer: &str, told: &mut String) -> Res
 fn is_parted(other: &Option<Other<'_>>) -> bool {
     match other {
         None => false,
-        Some(other) => verb_of(other.record.line.text) == Some("reopen"),
+        Some(other) => {
+            let record = other.record;
+            verb_of(record.line.text) == Some("reopen")
+        }
     }
 }
