@@ -65,7 +65,10 @@ impl Course<'_> {
 
     /// What the log had before a line.
     pub fn items_before(&self, at: usize) -> &str {
-        match at.checked_sub(1).and_then(|at| self.records.get(at)) {
+        let Some(before) = at.checked_sub(1) else {
+            return NO_LOG;
+        };
+        match self.records.get(before) {
             None => NO_LOG,
             Some(record) => record.items.as_str(),
         }
