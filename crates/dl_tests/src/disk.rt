@@ -2,4 +2,5 @@
 mod folder;
 mod fuse;
 mod memory;
+mod place;
 mod rig;

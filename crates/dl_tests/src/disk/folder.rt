@@ -1,78 +1,11 @@
 // A disk over a folder of the system, call by call, beside a disk in memory.
-use super::rig::{Call, Rig, Row, TEXT, queue};
+use super::place::Place;
+use super::rig::{Call, Rig, Row, TEXT};
 use dl_disk::{Disk, Fault, FolderDisk, OpenFault};
 use dl_types::Part;
 use std::alloc::{AllocError, Global};
-use std::path::PathBuf;
+use std::fs;
 use std::test::Fail;
-use std::{env, fs, io, process};
-
-// A folder of one test alone, with nothing in it to begin with.
-#[derive(Drop)]
-struct Place {
-    rt: HostRuntime,
-    path: PathBuf,
-}
-
-impl Place {
-    fn new(rt: &HostRuntime, test: &str) -> Result<Place, Fail> {
-        let name = format!(in rt.alloc(); "dl_disk-{test}-{}", process::id(rt.process()))?;
-        let path = env::temp_dir(rt)?.join(rt.alloc(), name.as_str())?;
-        if fs::exists(rt, path.as_path())? {
-            fs::remove_dir_all(rt, path.as_path())?;
-        }
-        fs::create_dir(rt, path.as_path())?;
-        Ok(Place {
-            rt: rt.clone()?,
-            path,
-        })
-    }
-
-    // Where an entry of this name stands.
-    fn at(&self, name: &str) -> io::Result<PathBuf> {
-        Ok(self.path.join(self.rt.alloc(), name)?)
-    }
-
-    fn lay(&self, name: &str, text: &str) -> io::Result<()> {
-        fs::write(&self.rt, self.at(name)?, text)
-    }
-
-    fn has(&self, name: &str) -> io::Result<bool> {
-        fs::exists(&self.rt, self.at(name)?)
-    }
-
-    // Lays an index, and files whose names no log has.
-    fn lay_others(&self) -> io::Result<()> {
-        for name in [
-            "queue.log.new",
-            "queue",
-            "queue.01",
-            "notes.txt",
-            ".log",
-            "queue.idx",
-        ] {
-            self.lay(name, "left")?;
-        }
-        Ok(())
-    }
-
-    // Whether the halt log's file has `TEXT`, and no draft of it is there.
-    fn holds_text(&self) -> io::Result<bool> {
-        let text = fs::read_to_string(&self.rt, self.at("queue.log")?)?;
-        Ok(text.as_bytes() == TEXT.as_slice() && !self.has("queue.log.new")?)
-    }
-
-    fn disk(&self) -> Result<Rig<FolderDisk<HostRuntime>>, Fail> {
-        Ok(Rig {
-            disk: FolderDisk::open(self.rt.clone()?, self.path.as_str())?,
-            base: queue()?,
-        })
-    }
-
-    fn clear(&self) -> io::Result<()> {
-        fs::remove_dir_all(&self.rt, self.path.as_path())
-    }
-}
 
 // The calls that are made on a folder and on a disk in memory.
 const CALLS: [Row<'static>; 23] = [
@@ -162,12 +95,17 @@ fn lists_both(rig: &mut Rig<FolderDisk<HostRuntime>>, alloc: Global) -> Result<b
     Ok(names.as_slice() == files.as_slice())
 }
 
+// The same of a folder of a test.
+fn lists_both_in(place: &Place) -> Result<bool, Fail> {
+    let mut rig = place.disk()?;
+    lists_both(&mut rig, place.rt.alloc())
+}
+
 #[test]
 fn other_names_are_passed_over_and_no_draft_is_left(rt: HostRuntime) -> Result<(), Fail> {
     let place = Place::new(&rt, "names")?;
     place.lay_others()?;
-    let mut rig = place.disk()?;
-    assert!(rt; lists_both(&mut rig, rt.alloc())?);
+    assert!(rt; lists_both_in(&place)?);
     assert!(rt; place.holds_text()?);
     place.clear()?;
     Ok(())
@@ -183,28 +121,50 @@ const ON_A_FOLDER: [Row<'static>; 6] = [
     (Part::Halt, Call::Rename(Part::Index), false),
 ];
 
+// Makes these calls, and finds the first one that ends otherwise, or that not each of them was a fault.
+fn first_uncounted(rig: &mut Rig<FolderDisk<HostRuntime>>) -> Result<Option<usize>, AllocError> {
+    let wrong = rig.first_wrong(&ON_A_FOLDER)?;
+    if rig.disk.fault_count(rig.base) != Some(ON_A_FOLDER.len() as u64) {
+        return Ok(Some(ON_A_FOLDER.len()));
+    }
+    Ok(wrong)
+}
+
+// The same of a folder of a test, in which the halt log's file is a folder.
+fn first_uncounted_in(place: &Place) -> Result<Option<usize>, Fail> {
+    fs::create_dir(&place.rt, place.at("queue.log")?)?;
+    let mut rig = place.disk()?;
+    Ok(first_uncounted(&mut rig)?)
+}
+
 #[test]
 fn a_folder_in_the_place_of_a_file_is_a_counted_fault(rt: HostRuntime) -> Result<(), Fail> {
     let place = Place::new(&rt, "no_file")?;
-    fs::create_dir(&rt, place.at("queue.log")?)?;
-    let mut rig = place.disk()?;
-    assert_eq!(rt; rig.first_wrong(&ON_A_FOLDER)?, None);
-    assert_eq!(rt; rig.disk.fault_count(rig.base), Some(6));
+    assert_eq!(rt; first_uncounted_in(&place)?, None);
     assert!(rt; !place.has("queue.log.new")?);
     place.clear()?;
     Ok(())
+}
+
+// Whether a path is refused as that of no folder.
+fn is_no_folder(rt: &HostRuntime, path: &str) -> Result<bool, Fail> {
+    let disk = FolderDisk::open(rt.clone()?, path);
+    Ok(matches!(disk, Err(OpenFault::Device)))
+}
+
+// The same of an entry of a test's folder.
+fn is_no_folder_at(place: &Place, name: &str) -> Result<bool, Fail> {
+    let path = place.at(name)?;
+    is_no_folder(&place.rt, path.as_str())
 }
 
 #[test]
 fn a_path_that_is_no_folder_is_refused(rt: HostRuntime) -> Result<(), Fail> {
     let place = Place::new(&rt, "no_folder")?;
     place.lay("plain", "")?;
-    let missing = place.at("missing")?;
-    let plain = place.at("plain")?;
-    for text in [missing.as_str(), plain.as_str(), ""] {
-        let disk = FolderDisk::open(rt.clone()?, text);
-        assert!(rt; matches!(disk, Err(OpenFault::Device)), "{text:?}");
-    }
+    assert!(rt; is_no_folder_at(&place, "missing")?);
+    assert!(rt; is_no_folder_at(&place, "plain")?);
+    assert!(rt; is_no_folder(&rt, "")?);
     place.clear()?;
     Ok(())
 }
@@ -251,10 +211,11 @@ fn first_unlike<D: Disk + Drop, E: Disk + Drop>(
     Ok(None)
 }
 
-// Writes and cuts many files by turns, and finds the first one that a disk in memory has otherwise.
-fn first_of_many(place: &Place) -> Result<Option<u32>, Fail> {
-    let mut rig = place.disk()?;
-    let mut model = Rig::empty(place.rt.alloc())?;
+// Writes and cuts many files by turns, and finds the first one that two disks have otherwise.
+fn first_of_many<D: Disk + Drop, E: Disk + Drop>(
+    one: &mut Rig<D>,
+    other: &mut Rig<E>,
+) -> Result<Option<u32>, AllocError> {
     let calls = [
         Call::Put(TEXT),
         Call::Write(6, b"ghi"),
@@ -262,7 +223,7 @@ fn first_of_many(place: &Place) -> Result<Option<u32>, Fail> {
         Call::Write(3, b"XYZ"),
     ];
     for call in calls.iter() {
-        let unlike = first_unlike(&mut rig, &mut model, *call)?;
+        let unlike = first_unlike(one, other, *call)?;
         if unlike.is_some() {
             return Ok(unlike);
         }
@@ -270,10 +231,25 @@ fn first_of_many(place: &Place) -> Result<Option<u32>, Fail> {
     Ok(None)
 }
 
+// The same of a folder and a disk in memory.
+fn first_beside_memory(
+    rig: &mut Rig<FolderDisk<HostRuntime>>,
+    alloc: Global,
+) -> Result<Option<u32>, Fail> {
+    let mut model = Rig::empty(alloc)?;
+    Ok(first_of_many(rig, &mut model)?)
+}
+
+// The same of a folder of a test.
+fn first_of_many_in(place: &Place) -> Result<Option<u32>, Fail> {
+    let mut rig = place.disk()?;
+    first_beside_memory(&mut rig, place.rt.alloc())
+}
+
 #[test]
 fn more_files_than_are_kept_open_are_used_by_turns(rt: HostRuntime) -> Result<(), Fail> {
     let place = Place::new(&rt, "many")?;
-    assert_eq!(rt; first_of_many(&place)?, None);
+    assert_eq!(rt; first_of_many_in(&place)?, None);
     place.clear()?;
     Ok(())
 }
