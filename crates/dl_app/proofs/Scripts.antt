@@ -1,5 +1,5 @@
 -- Scripts, and one line more.
-use Rattle.std.proofs.Common.{◌≡◌, ◌≤◌, ℕ, List, [], ◌∷◌, ◌++◌, Option, Some, None, Result, Ok, Err, OnOk, IfSome, IfNone, length, refl, sym, ap, subst, ◌∙◌, append_assoc, append-nil, ◌⊎◌, inl, inr}
+use Rattle.std.proofs.Common.{◌≡◌, ◌≤◌, ℕ, List, [], ◌∷◌, ◌++◌, Option, Some, None, Result, Ok, Err, OnOk, IfSome, IfNone, length, refl, sym, ap, subst, ◌∙◌, append_assoc, append-nil}
 use Rattle.std.specs.Io.KnownBytes.{Appends, Keeps}
 use Rattle.dl_types.specs.declared.refusal.Fail.{Fail}
 use Rattle.dl_types.specs.declared.refusal.Fail.TheVariants.{Refused, OutOfMemory}

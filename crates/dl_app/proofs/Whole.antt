@@ -1,6 +1,5 @@
 -- A script that shows no file is one run.
-use Rattle.std.proofs.Common.{◌≡◌, ◌⊎◌, inl, inr, ℕ, List, [], ◌∷◌, ◌++◌, Option, Some, None, true, false, refl, sym, ap, subst, length, ◌≤◌}
-use Rattle.dl_types.specs.declared.call.Call.{Call}
+use Rattle.std.proofs.Common.{◌≡◌, inl, inr, ℕ, List, [], ◌∷◌, ◌++◌, Option, Some, None, refl, ap, subst}
 use Rattle.dl_types.specs.declared.event.Event.{Event}
 use Rattle.dl_types.specs.declared.event.Event.TheVariants as event
 use Rattle.dl_types.specs.declared.name.ClientId.{ClientId}
@@ -10,15 +9,13 @@ use Rattle.dl_types.specs.declared.reply.Outcome.{Outcome}
 use Rattle.dl_disk.specs.Disk.{DiskState}
 use Rattle.dl_hub.specs.View.{HubView}
 use Rattle.dl_hub.specs.Run.{IsRun}
-use Rattle.dl_app.specs.Answers.{IsLineOf, IsRefusalText}
-use Rattle.dl_app.specs.Places.{places_after}
 use Rattle.dl_types.specs.declared.place.Place.{Place}
 use Rattle.dl_app.specs.declared.command.Command.{Command}
 use Rattle.dl_app.specs.declared.command.Command.TheVariants as command
 use Rattle.dl_app.specs.declared.command.Request.{Request}
 use Rattle.dl_app.specs.Command.{IsForm, call_in, refusal_in}
-use Rattle.dl_app.specs.Script.{Stage, AnswersEvent, IsCalled, IsStepped, IsDone, IsLine, IsScript}
-use Rattle.dl_app.specs.Whole.{ShowsNoFile, ShowNoFile, IsEventOf, Deed, IsAnswered, AreAnswered, events_of, outcomes_of, IsWhole}
+use Rattle.dl_app.specs.Script.{Stage, AnswersEvent, IsCalled, IsDone, IsLine, IsScript}
+use Rattle.dl_app.specs.Whole.{ShowsNoFile, ShowNoFile, IsEventOf, Deed, IsAnswered, events_of, outcomes_of, IsWhole}
 use Rattle.dl_app.specs.Words.{words_of}
 
 module _ {D : Type 0} (state : D → DiskState) (Z : Type 0) (line : List ℕ) (lines : List (List ℕ)) (old mid new : HubView D) (first others answers : List ℕ) (is : answers ≡ first ++ others) where
