@@ -26,19 +26,24 @@ const ASKED: Asked = Asked {
     head: Some(HEAD),
 };
 
-// Opens the log. If that fails the device is mended, if it fails for good, and the log is opened again.
-fn open(alloc: Global, disk: Failing, fuse: Fuse) -> Result<Rig<Failing>, Fail> {
-    let base = Base::parse(b"h").ok_or("base")?;
-    let mut disk = match Rig::open(alloc, disk, base, ASKED)? {
-        Begun::Open(rig, _) => return Ok(rig),
-        Begun::Refused(_, disk) => disk,
-    };
-    if fuse == Fuse::All {
-        disk.mend();
-    }
+// Opens the log.
+fn open_now(alloc: Global, disk: Failing, base: Base) -> Result<Rig<Failing>, Fail> {
     match Rig::open(alloc, disk, base, ASKED)? {
         Begun::Open(rig, _) => Ok(rig),
         Begun::Refused(_, _) => Err("not opened".into()),
+    }
+}
+
+// Opens the log. If that fails the device is mended, if it fails for good, and the log is opened again.
+fn open(alloc: Global, disk: Failing, base: Base, fuse: Fuse) -> Result<Rig<Failing>, Fail> {
+    match Rig::open(alloc, disk, base, ASKED)? {
+        Begun::Open(rig, _) => Ok(rig),
+        Begun::Refused(_, mut disk) => {
+            if fuse == Fuse::All {
+                disk.mend();
+            }
+            open_now(alloc, disk, base)
+        }
     }
 }
 
@@ -73,23 +78,50 @@ fn has(alloc: Global, rig: &mut Rig<Failing>, items: &[Filled]) -> bool {
     rig.has(alloc, items) || rig.has(alloc, items)
 }
 
-// Runs a log over a device that fails at a call. How many calls there were, if it has its items at the end and again.
-fn survives(alloc: Global, calls: u64, fuse: Fuse) -> Result<u64, Fail> {
-    let disk = FuseDisk::new(alloc, MemoryDisk::new(alloc), None, calls, fuse);
-    let mut rig = open(alloc, disk, fuse)?;
-    let items = live(alloc, &mut rig)?;
+// Closes a log, at the second attempt if the first fails. Whether it had these items.
+fn ends(alloc: Global, rig: &mut Rig<Failing>, items: &[Filled]) -> bool {
+    has(alloc, rig, items) && (rig.close() || rig.close())
+}
+
+// The life of a log until it is closed, over a device that is mended if it fails for good. Its items, if it had them.
+fn ends_well(alloc: Global, rig: &mut Rig<Failing>, fuse: Fuse) -> Result<Vec<Filled>, Fail> {
+    let items = live(alloc, rig)?;
     if fuse == Fuse::All {
         rig.mend();
     }
-    let waited = has(alloc, &mut rig, items.as_slice());
-    if !waited || (!rig.close() && !rig.close()) {
+    if !ends(alloc, rig, items.as_slice()) {
         return Err("before the end".into());
     }
-    let mut again = open(alloc, rig.into_disk(), fuse)?;
-    if !has(alloc, &mut again, items.as_slice()) {
+    Ok(items)
+}
+
+// How many calls there were over a log that was opened again, if it has these items.
+fn passed_with(alloc: Global, rig: &mut Rig<Failing>, items: &[Filled]) -> Result<u64, Fail> {
+    if !has(alloc, rig, items) {
         return Err("after the end".into());
     }
-    Ok(again.disk().passed())
+    Ok(rig.disk().passed())
+}
+
+// Opens a log again. How many calls there were, if it has these items.
+fn has_again(
+    alloc: Global,
+    disk: Failing,
+    base: Base,
+    fuse: Fuse,
+    items: Vec<Filled>,
+) -> Result<u64, Fail> {
+    let mut rig = open(alloc, disk, base, fuse)?;
+    passed_with(alloc, &mut rig, items.as_slice())
+}
+
+// Runs a log over a device that fails at a call. How many calls there were, if it has its items at the end and again.
+fn survives(alloc: Global, calls: u64, fuse: Fuse) -> Result<u64, Fail> {
+    let base = Base::parse(b"h").ok_or("base")?;
+    let disk = FuseDisk::new(alloc, MemoryDisk::new(alloc), None, calls, fuse);
+    let mut rig = open(alloc, disk, base, fuse)?;
+    let items = ends_well(alloc, &mut rig, fuse)?;
+    has_again(alloc, rig.into_disk(), base, fuse, items)
 }
 
 // Lets each call of a log's life fail in turn. How many calls a life has.

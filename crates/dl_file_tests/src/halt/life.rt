@@ -60,33 +60,68 @@ fn open(
     }
 }
 
+// Adds items of copies of a byte in turn. Whether as many were added as the rows say, and the log is then full or not.
+fn adds(
+    alloc: Global,
+    rig: &mut Rig<MemoryDisk>,
+    rows: &[(u8, usize, Option<usize>, bool)],
+) -> Result<bool, Fail> {
+    let mut is_right = true;
+    for (byte, count, added, is_full) in rows.iter().copied() {
+        let found = rig.add(alloc, &[filled(byte, count)])?;
+        is_right = is_right && found == added && rig.is_full() == is_full;
+    }
+    Ok(is_right)
+}
+
 // Fills a log of at most 50 bytes: 34 of them, then an item too many, and then one that would fit.
-fn fills(alloc: Global) -> Result<bool, Fail> {
-    let (mut rig, _) = open(alloc, MemoryDisk::new(alloc), Asked::limited(50))?;
-    let first = rig.add(alloc, &[filled(b'a', 10)])? == Some(1) && !rig.is_full();
-    let second = rig.add(alloc, &[filled(b'b', 10)])? == Some(0) && rig.is_full();
-    let third = rig.add(alloc, &[filled(b'c', 1)])? == Some(0);
+fn fills(alloc: Global, rig: &mut Rig<MemoryDisk>) -> Result<bool, Fail> {
+    let rows = [
+        (b'a', 10, Some(1), false),
+        (b'b', 10, Some(0), true),
+        (b'c', 1, Some(0), true),
+    ];
+    let first = adds(alloc, rig, &rows)?;
     let larger = rig.change_size(60) == Ok(()) && !rig.is_full();
-    let fourth = rig.add(alloc, &[filled(b'c', 1)])? == Some(1);
-    let small = rig.change_size(42) == Err(43) && rig.change_size(43) == Ok(());
-    let fifth = rig.add(alloc, &[filled(b'd', 0)])? == Some(0) && rig.is_full();
+    let second = adds(alloc, rig, &[(b'c', 1, Some(1), false)])?;
+    let smaller = rig.change_size(42) == Err(43) && rig.change_size(43) == Ok(());
+    let third = adds(alloc, rig, &[(b'd', 0, Some(0), true)])?;
     let items = rig.has(alloc, &[filled(b'a', 10), filled(b'c', 1)]);
-    Ok(first && second && third && larger && fourth && small && fifth && items)
+    Ok(first && larger && second && smaller && third && items)
+}
+
+// The same of a log that is begun.
+fn fills_a_new_log(alloc: Global) -> Result<bool, Fail> {
+    let (mut rig, _) = open(alloc, MemoryDisk::new(alloc), Asked::limited(50))?;
+    fills(alloc, &mut rig)
 }
 
 #[test]
 fn a_full_log_takes_nothing_until_it_has_another_limit(rt: HostRuntime) -> Result<(), Fail> {
-    assert!(rt; fills(rt.alloc())?);
+    assert!(rt; fills_a_new_log(rt.alloc())?);
     Ok(())
 }
 
-// Repairs the damaged file and closes it. Whether it has the bytes that it is to have.
+// Whether the file on a disk has these bytes.
+fn is_text(disk: &MemoryDisk, text: &[u8]) -> Result<bool, Fail> {
+    Ok(disk.get(file()?) == Some(text))
+}
+
+// Closes the log of a repaired file. Whether it has the items and then the bytes that it is to have.
+fn is_repaired(
+    alloc: Global,
+    rig: &mut Rig<MemoryDisk>,
+    told: Option<(u64, u64)>,
+) -> Result<bool, Fail> {
+    let items = rig.has(alloc, &[P, QQ]) && rig.generation() == 7;
+    let is_whole = rig.close() && is_text(rig.disk(), WHOLE)?;
+    Ok(told == Some((2, 5)) && items && is_whole)
+}
+
+// Repairs the damaged file and closes it.
 fn repairs(alloc: Global) -> Result<bool, Fail> {
     let (mut rig, told) = open(alloc, damaged(alloc)?, Asked::limited(99))?;
-    let items = told == Some((2, 5)) && rig.has(alloc, &[P, QQ]) && rig.generation() == 7;
-    let closed = rig.close();
-    let text = rig.disk().get(file()?).ok_or("no file")?;
-    Ok(items && closed && text == WHOLE)
+    is_repaired(alloc, &mut rig, told)
 }
 
 #[test]
@@ -95,19 +130,30 @@ fn a_torn_file_is_repaired_and_closed(rt: HostRuntime) -> Result<(), Fail> {
     Ok(())
 }
 
-// Opens the damaged file to read it. Whether its items come with the number of its bad bytes, and the file stays.
+// The number of bad bytes that come with the items of a log, if these are two.
+fn bad_of_two(alloc: Global, rig: &mut Rig<MemoryDisk>) -> u64 {
+    match rig.chunk(alloc, Mode::ReadOnly) {
+        Some(Chunk::Items { items, bad, .. }) if items.as_slice().len() == 2 => bad,
+        _ => 0,
+    }
+}
+
+// Whether the items of the damaged file come with the number of its bad bytes, and the file stays.
+fn is_left(alloc: Global, rig: &mut Rig<MemoryDisk>) -> Result<bool, Fail> {
+    Ok(bad_of_two(alloc, rig) == 5 && is_text(rig.disk(), DAMAGED)?)
+}
+
+// Opens the damaged file to read it.
 fn reads(alloc: Global) -> Result<bool, Fail> {
     let asked = Asked {
         mode: Mode::ReadOnly,
         ..Asked::limited(99)
     };
     let (mut rig, told) = open(alloc, damaged(alloc)?, asked)?;
-    let bad = match rig.chunk(alloc, Mode::ReadOnly) {
-        Some(Chunk::Items { items, bad, .. }) if items.as_slice().len() == 2 => bad,
-        _ => 0,
-    };
-    let text = rig.disk().get(file()?).ok_or("no file")?;
-    Ok(told.is_none() && bad == 5 && text == DAMAGED)
+    match told {
+        Some(_) => Ok(false),
+        None => is_left(alloc, &mut rig),
+    }
 }
 
 #[test]
@@ -122,7 +168,9 @@ fn refuses(alloc: Global) -> Result<bool, Fail> {
         repair: Repair::No,
         ..Asked::limited(99)
     };
-    match Rig::open(alloc, damaged(alloc)?, base()?, asked)? {
+    let base = base()?;
+    let disk = damaged(alloc)?;
+    match Rig::open(alloc, disk, base, asked)? {
         Begun::Open(_, _) => Ok(false),
         Begun::Refused(fault, _) => Ok(fault == OpenFault::NeedRepair),
     }
@@ -135,22 +183,27 @@ fn a_torn_file_is_refused_if_it_is_not_to_be_repaired(rt: HostRuntime) -> Result
 }
 
 // A log with a head item, which is emptied, first with the log's own head item and then with another.
-fn heads(alloc: Global) -> Result<bool, Fail> {
-    let head = filled(b'H', 1);
+fn heads(alloc: Global, rig: &mut Rig<MemoryDisk>, head: Filled) -> Result<bool, Fail> {
     let other = filled(b'T', 3);
-    let asked = Asked {
-        head: Some(head),
-        ..Asked::limited(99)
-    };
-    let (mut rig, _) = open(alloc, MemoryDisk::new(alloc), asked)?;
     let first = rig.add(alloc, &[P])? == Some(1) && rig.has(alloc, &[head, P]);
     let own = rig.empty(alloc, None)? == Ok(()) && rig.has(alloc, &[head]);
     let another = rig.empty(alloc, Some(other))? == Ok(()) && rig.has(alloc, &[other]);
     Ok(first && own && another && rig.generation() == 3)
 }
 
+// The same of a log that is begun.
+fn heads_of_a_new_log(alloc: Global) -> Result<bool, Fail> {
+    let head = filled(b'H', 1);
+    let asked = Asked {
+        head: Some(head),
+        ..Asked::limited(99)
+    };
+    let (mut rig, _) = open(alloc, MemoryDisk::new(alloc), asked)?;
+    heads(alloc, &mut rig, head)
+}
+
 #[test]
 fn each_file_begins_with_its_head_item(rt: HostRuntime) -> Result<(), Fail> {
-    assert!(rt; heads(rt.alloc())?);
+    assert!(rt; heads_of_a_new_log(rt.alloc())?);
     Ok(())
 }

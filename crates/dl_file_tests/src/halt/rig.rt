@@ -1,5 +1,6 @@
 // The file of one halt log that tests call, and owe nothing for it.
-ghost use Rattle.std.specs.Prelude.{IsTrue};
+ghost use Rattle.std.specs.Prelude.{IsTrue, IfOk};
+ghost use Rattle.dl_file.specs.File.{IsReady};
 
 use crate::filled::{Filled, are, made};
 use dl_cache::Cache;
@@ -58,29 +59,40 @@ pub enum Begun<D: Disk + Drop> {
     Refused(OpenFault, D),
 }
 
+// Opens the log of a base in a chain of its own.
+fn opened<D: Disk>(
+    alloc: Global,
+    disk: &mut D,
+    cache: &mut Cache,
+    base: Base,
+    asked: Asked,
+) -> Result<Result<Opening, OpenFault>, Fail>
+    ensures { IfOk result (λ opened. IfOk opened (λ o. IsReady (D.state disk.new) cache.new o.files.file)) }
+{
+    disk.know(base)?;
+    let chain = cache.open_chain()?;
+    let size = match asked.size {
+        Size::Infinity => Size::Infinity,
+        limited => Size::Limit(limited.limit().min(100_000)),
+    };
+    let asked = OpenAs {
+        mode: asked.mode,
+        repair: asked.repair,
+        size,
+        head: made(alloc, asked.head)?,
+    };
+    Ok(HaltFiles::open(alloc, disk, base, chain, asked))
+}
+
 impl<D: Disk + Drop> Rig<D> {
     /// Opens the log of a base, with one block.
     pub fn open(alloc: Global, mut disk: D, base: Base, asked: Asked) -> Result<Begun<D>, Fail> {
-        disk.know(base)?;
         let mut cache = Cache::new(alloc, 1)?;
-        let chain = cache.open_chain()?;
-        let size = match asked.size {
-            Size::Infinity => Size::Infinity,
-            limited => Size::Limit(limited.limit().min(100_000)),
-        };
-        let asked = OpenAs {
-            mode: asked.mode,
-            repair: asked.repair,
-            size,
-            head: made(alloc, asked.head)?,
-        };
-        match HaltFiles::open(alloc, &mut disk, base, chain, asked) {
+        let opened = opened(alloc, &mut disk, &mut cache, base, asked)?;
+        match opened {
             Err(fault) => Ok(Begun::Refused(fault, disk)),
             Ok(Opening { files, repaired }) => {
-                let told = match repaired {
-                    None => None,
-                    Some(repaired) => Some((repaired.recovered, repaired.bad)),
-                };
+                let told = repaired.map(|repaired| (repaired.recovered, repaired.bad));
                 Ok(Begun::Open(Rig { disk, cache, files }, told))
             }
         }

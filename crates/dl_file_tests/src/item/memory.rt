@@ -19,19 +19,24 @@ const ITEMS: [Filled; 2] = [
     },
 ];
 
-// Whether the first block of two items is written to a disk that has a heap for its files. The items are there in any case.
-fn is_drained(alloc: Global, heap: &LocalHeap, name: FileName) -> Result<bool, Fail> {
-    let mut rig = Rig::begin(alloc, MemoryDisk::new(heap), name, 2)?;
+// Whether the first block of two items is written. The items are there in any case.
+fn is_drained(alloc: Global, rig: &mut Rig<MemoryDisk<&LocalHeap>>) -> Result<bool, Fail> {
     for item in ITEMS {
         if !rig.add(alloc, item.byte, item.count)? {
             return Err("no room in the cache".into());
         }
     }
     let is_written = rig.flush();
-    if !has_all(alloc, &mut rig, &ITEMS) {
+    if !has_all(alloc, rig, &ITEMS) {
         return Err("an item is gone".into());
     }
     Ok(is_written)
+}
+
+// The same over a disk that has a heap for its files.
+fn is_drained_to(alloc: Global, heap: &LocalHeap, name: FileName) -> Result<bool, Fail> {
+    let mut rig = Rig::begin(alloc, MemoryDisk::new(heap), name, 2)?;
+    is_drained(alloc, &mut rig)
 }
 
 #[test]
@@ -42,7 +47,7 @@ fn each_growth_of_a_drain_is_refused_in_turn_and_no_item_is_lost(
     let mut written = 0u64;
     for step in 0..32 {
         let heap = LocalHeap::new(rt.alloc(), 1024 + 256 * step)?;
-        if is_drained(rt.alloc(), &heap, FileName::halt(Base::of(log)))? {
+        if is_drained_to(rt.alloc(), &heap, FileName::halt(Base::of(log)))? {
             written = written.saturating_add(1);
         }
     }

@@ -3,20 +3,29 @@ use super::rig::{Call, Rig, TEXT};
 use dl_disk::{Disk, ListFault, MemoryDisk};
 use dl_types::Part;
 use linked_list_allocator::LocalHeap;
+use std::alloc::Global;
 use std::test::Fail;
+
+// Writes and puts more than there is memory for. Whether both are counted faults, and the file stays.
+fn keeps_text(rig: &mut Rig<MemoryDisk<&LocalHeap>>, much: &[u8]) -> Result<bool, Fail> {
+    let rows = [
+        (Part::Halt, Call::Write(6, much), false),
+        (Part::Halt, Call::Put(much), false),
+    ];
+    let is_right = rig.first_wrong(&rows)?.is_none();
+    Ok(is_right && rig.faults() == Some(2) && rig.has(Part::Halt, TEXT))
+}
+
+// The same of a disk over a heap.
+fn keeps_text_in(heap: &LocalHeap) -> Result<bool, Fail> {
+    let mut rig = Rig::with_text(heap)?;
+    keeps_text(&mut rig, &[7; 8192])
+}
 
 #[test]
 fn a_growth_that_is_refused_is_a_fault_and_the_file_stays(rt: HostRuntime) -> Result<(), Fail> {
     let heap = LocalHeap::new(rt.alloc(), 4096)?;
-    let much = vec![in rt.alloc(); 7; 8192]?;
-    let mut rig = Rig::with_text(&heap)?;
-    let rows = [
-        (Part::Halt, Call::Write(6, &much), false),
-        (Part::Halt, Call::Put(&much), false),
-    ];
-    assert_eq!(rt; rig.first_wrong(&rows)?, None);
-    assert_eq!(rt; rig.faults(), Some(2));
-    assert!(rt; rig.has(Part::Halt, TEXT));
+    assert!(rt; keeps_text_in(&heap)?);
     Ok(())
 }
 
@@ -25,11 +34,16 @@ fn want_more(disk: &mut MemoryDisk, heap: &LocalHeap) -> bool {
     matches!(disk.list(heap), Err(ListFault::OutOfMemory))
 }
 
+// The same of the names of a disk with a file.
+fn want_more_than(alloc: Global, heap: &LocalHeap) -> Result<bool, Fail> {
+    let mut rig = Rig::with_text(alloc)?;
+    Ok(want_more(&mut rig.disk, heap))
+}
+
 #[test]
 fn names_that_have_no_room_are_out_of_memory(rt: HostRuntime) -> Result<(), Fail> {
     let heap = LocalHeap::new(rt.alloc(), 32)?;
-    let mut rig = Rig::with_text(rt.alloc())?;
-    assert!(rt; want_more(&mut rig.disk, &heap));
+    assert!(rt; want_more_than(rt.alloc(), &heap)?);
     Ok(())
 }
 
@@ -42,9 +56,14 @@ fn knows_the_longest(rig: &mut Rig<MemoryDisk>) -> Result<bool, Fail> {
     Ok(before == 0 && rig.disk.longest() == 4 && rig.disk.copy()?.longest() == 4)
 }
 
+// The same of a disk with a file.
+fn knows_the_longest_read(alloc: Global) -> Result<bool, Fail> {
+    let mut rig = Rig::with_text(alloc)?;
+    knows_the_longest(&mut rig)
+}
+
 #[test]
 fn the_longest_read_is_remembered(rt: HostRuntime) -> Result<(), Fail> {
-    let mut rig = Rig::with_text(rt.alloc())?;
-    assert!(rt; knows_the_longest(&mut rig)?);
+    assert!(rt; knows_the_longest_read(rt.alloc())?);
     Ok(())
 }
