@@ -1,5 +1,5 @@
 -- The strays of a list of files.
-use Rattle.std.proofs.Common.{◌≡◌, ◌≤◌, ◌<◌, ◌+◌, ◌^◌, ◌⊎◌, inl, inr, ℕ, List, [], ◌∷◌, ◌++◌, Bool, true, false, cond, Option, Some, None, Result, Ok, IsTrue, refl, sym, ◌∙◌, ap, subst, length, arith}
+use Rattle.std.proofs.Common.{◌≡◌, ◌≤◌, ◌<◌, ◌⊎◌, inl, inr, ℕ, List, [], ◌∷◌, ◌++◌, Bool, true, false, cond, Option, Some, Result, Ok, IsTrue, refl, sym, ◌∙◌, ap, subst, length, arith}
 use Rattle.std.specs.Prelude.{◌↔◌, not, IsSome}
 use Rattle.std.specs.FinMap as map
 use Rattle.std.specs.List.{Contains}
@@ -24,7 +24,7 @@ use Rattle.dl_tool.specs.declared.named.Named.TheVariants as named
 use Rattle.dl_tool.specs.declared.named.TheConstants.{INDEX_LIMIT}
 use Rattle.dl_tool.specs.Named.{index_of, leaves_out, names_number, IsLeftOut, IsNamed, Knows, LeavesOut}
 use Rattle.dl_tool.specs.Reads.{OnlyReads, ReadsLog}
-use Rattle.dl_tool.specs.Stray.{IsStray, ArePicked, AreStrays}
+use Rattle.dl_tool.specs.Stray.{ArePicked, AreStrays}
 use Rattle.dl_tool.proofs.Logs.{one_of, the_one}
 
 -- ---- what an index names

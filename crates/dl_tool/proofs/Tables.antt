@@ -5,7 +5,6 @@ use Rattle.std.proofs.lemmas.List.{take_more}
 use Rattle.std.proofs.lemmas.List.Sums.{sum_by-append}
 use Rattle.dl_types.specs.Add.{capped}
 use Rattle.dl_tool.specs.declared.finding.Amount.{Amount}
-use Rattle.dl_tool.specs.declared.finding.Finding.{Finding}
 use Rattle.dl_tool.specs.declared.table.Row.{Row}
 use Rattle.dl_tool.specs.Table.{amount_in, share_of, total_of, total_with, last_text, gap}
 use Rattle.dl_tool.proofs.Readings.{capped_more}

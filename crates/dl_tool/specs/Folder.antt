@@ -1,5 +1,5 @@
 -- Which logs a folder has.
-use Rattle.std.specs.Prelude.{◌≡◌, ◌↔◌, Option, Some, None, IsSome, Contains, List, [], ◌∷◌, filter}
+use Rattle.std.specs.Prelude.{◌↔◌, Option, Some, None, IsSome, Contains, List, [], ◌∷◌, filter}
 use Rattle.std.specs.FinMap as map
 use Rattle.dl_types.specs.declared.name.Base.{Base}
 use Rattle.dl_types.specs.declared.file.FileName.{FileName}

@@ -21,10 +21,10 @@ pub fn find_logs<D: Disk, A: Allocator + Copy>(
     ensures logs { IsTrue (D.state disk.new).honest → IfOk result (λ logs. AreLogs (D.state disk.old).content logs.items) }
 {
     let names = sorted_names(alloc, disk)?;
-    match logs_of(alloc, &names) {
-        Err(_) => Err(ListFault::OutOfMemory),
-        Ok(logs) => Ok(logs),
-    }
+    let Ok(logs) = logs_of(alloc, &names) else {
+        return Err(ListFault::OutOfMemory);
+    };
+    Ok(logs)
 }
 
 /// The names of the files of a folder, in order of base.

@@ -13,9 +13,6 @@ pub fn length_of<D: Disk>(disk: &mut D, file: FileName) -> Result<u64, CheckFaul
     ensures reads { ReadsLog file.base (D.state disk.old) (D.state disk.new) result }
     ensures same { IsTrue (D.state disk.new).honest → IfOk result (λ n. n ≡ length (text_at (D.state disk.old).content file)) }
 {
-    match disk.size(file) {
-        Err(_) => Err(CheckFault::Device(file)),
-        Ok(None) => Ok(0),
-        Ok(Some(size)) => Ok(size),
-    }
+    let size = disk.size(file).map_err(|_| CheckFault::Device(file))?;
+    Ok(size.unwrap_or(0))
 }

@@ -1,4 +1,4 @@
-use Rattle.std.proofs.Common.{rules, ◌≡◌, ◌++◌, ℕ, List, length, sym, ap, ◌∙◌, append-nil, arith}
+use Rattle.std.proofs.Common.{◌≡◌, ◌++◌, ℕ, List, length, sym, ap, ◌∙◌, append-nil, arith}
 use Rattle.std.proofs.lemmas.Grind.{common_steps}
 use Rattle.dl_tool.specs.declared.table.Column.TheVariants.{State}
 use Rattle.dl_tool.specs.Table.{cell, last_text}

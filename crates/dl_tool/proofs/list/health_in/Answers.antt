@@ -1,4 +1,4 @@
-use Rattle.std.proofs.Common.{◌≡◌, ◌∷◌, [], List, Bool, sym, ap, ◌∙◌, take, get_or}
+use Rattle.std.proofs.Common.{[], List, Bool, sym, ap, ◌∙◌, take, get_or}
 use Rattle.std.specs.Prelude.{◌&&◌, ◌||◌, map as mapped}
 use Rattle.std.specs.List.{list_all, list_any}
 use Rattle.std.proofs.lemmas.List.{take_more}

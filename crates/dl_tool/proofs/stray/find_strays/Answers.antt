@@ -3,7 +3,7 @@ use Rattle.std.proofs.lemmas.Result.{IfOk-weaker}
 use Rattle.dl_types.specs.FileName.{Content}
 use Rattle.dl_types.specs.declared.file.FileName.{FileName}
 use Rattle.dl_tool.specs.Stray.{ArePicked}
-use Rattle.dl_tool.proofs.Strays.{only_none, only_then, only_uncounted, rises_over, strays_are}
+use Rattle.dl_tool.proofs.Strays.{only_then, only_uncounted, rises_over, strays_are}
 use Rattle.dl_tool.proofs.stray.find_strays.Goals as goal
 
 pub returns-clause-reads : goal.returns-clause-reads

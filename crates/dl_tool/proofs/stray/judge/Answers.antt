@@ -1,7 +1,7 @@
-use Rattle.std.proofs.Common.{◌≡◌, Ok, refl}
+use Rattle.std.proofs.Common.{refl}
 use Rattle.dl_disk.proofs.Acts.{acts_none}
 use Rattle.dl_tool.proofs.Readings.{reads_then}
-use Rattle.dl_tool.proofs.Strays.{judged_left, not_left, read_none}
+use Rattle.dl_tool.proofs.Strays.{judged_left}
 use Rattle.dl_tool.proofs.stray.judge.Goals as goal
 
 pub returns-clause-reads : goal.returns-clause-reads

@@ -1,4 +1,4 @@
-use Rattle.std.proofs.Common.{◌≡◌, [], ap, ◌∙◌}
+use Rattle.std.proofs.Common.{[], ap, ◌∙◌}
 use Rattle.dl_types.specs.declared.size.Kind.TheVariants.{Halt}
 use Rattle.dl_tool.specs.declared.finding.Finding.TheVariants.{Absent}
 use Rattle.dl_tool.specs.declared.table.Row.{Row}
