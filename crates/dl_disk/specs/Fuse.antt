@@ -58,3 +58,8 @@ pub record AsksFuse {D T E : Type 0} (state : D → DiskState) (base : Base) (ol
   pub blown : IsTrue (is_blown old base) → IsErr result
   pub spared : IsTrue (is_blown old base) → new.inner ≡ old.inner
   pub made : IsFalse (is_blown old base) → IsCallOn base (state old.inner) (state new.inner) result
+
+-- a call on the files of a base is one call of the disk above, whose fuse it asks
+pub record IsFuseCall {D T E : Type 0} (state : D → DiskState) (base : Base) (old new : FuseView D) (result : Result T E) : Type 0 where
+  pub device : IsCallOn base (fuse_state state old) (fuse_state state new) result
+  pub asks : AsksFuse state base old new result

@@ -88,8 +88,7 @@ impl<D: Disk + Drop> Rig<D> {
     /// Opens the log of a base, with one block.
     pub fn open(alloc: Global, mut disk: D, base: Base, asked: Asked) -> Result<Begun<D>, Fail> {
         let mut cache = Cache::new(alloc, 1)?;
-        let opened = opened(alloc, &mut disk, &mut cache, base, asked)?;
-        match opened {
+        match opened(alloc, &mut disk, &mut cache, base, asked)? {
             Err(fault) => Ok(Begun::Refused(fault, disk)),
             Ok(Opening { files, repaired }) => {
                 let told = repaired.map(|repaired| (repaired.recovered, repaired.bad));
