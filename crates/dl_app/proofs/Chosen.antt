@@ -81,7 +81,7 @@ none_set (setting.Link x ∷ settings) = none_set settings
 
 -- ---- the loop over options
 
--- a new setting, and none that is set
+-- a setting is added only if none of its sort is set
 pub is_new : (b : Bool) (x y : Settings) → Some y ≡ cond b None (Some x) → (b ≡ false) × (y ≡ x)
 is_new true x y e = let bad : ⊥ = cc in absurd bad
 is_new false x y e = (refl, cc)
@@ -90,13 +90,13 @@ pub both_ways : (b : Bool) → b ≡ true → b ≡ false → ⊥
 both_ways true p q = let bad : ⊥ = cc in bad
 both_ways false p q = let bad : ⊥ = cc in bad
 
--- an option more is read
+-- one more option is read
 pub read_more : (all : Settings) (left : List (List ℕ)) (option : List ℕ) (rest : List (List ℕ)) (s : Setting) (next new : Settings) → left ≡ option ∷ rest → WritesSetting option s → is_set all s ≡ false
     → next ≡ also_set all s → ReadOn next rest new → ReadOn all left new
 read_more all left option rest s next new at writes unset is read =
     subst (λ (l : List (List ℕ)). ReadOn all l new) (sym at) (s, writes, unset, subst (λ (n : Settings). ReadOn n rest new) is read)
 
--- what can be read hangs on which sorts are set, and on nothing else
+-- which options can be read depends on which sorts are set, and on nothing else
 can_read_alike : (a b : Settings) → ((t : Setting) → is_set a t ≡ is_set b t) → (options : List (List ℕ)) → CanRead a options → CanRead b options
 can_read_alike a b same [] read = tt
 can_read_alike a b same (option ∷ options) read =
@@ -104,7 +104,7 @@ can_read_alike a b same (option ∷ options) read =
     let more = λ (t : Setting). set_by a s t ∙ ap (λ (x : Bool). is_same_sort s t || x) (same t) ∙ sym (set_by b s t) in
     (s, read.1, sym (same s) ∙ read.2, can_read_alike (also_set a s) (also_set b s) more options read.3)
 
--- and the others can be read behind it, whichever setting it was
+-- and the others can be read after it, whichever setting it wrote
 pub read_less : (all : Settings) (left : List (List ℕ)) (option : List ℕ) (rest : List (List ℕ)) (s : Setting) (next : Settings) → left ≡ option ∷ rest → WritesSetting option s → next ≡ also_set all s
     → CanRead all left → CanRead next rest
 read_less all left option rest s next at writes is read =
@@ -112,7 +112,7 @@ read_less all left option rest s next at writes is read =
     let same = λ (t : Setting). set_by all first.0 t ∙ ap (λ (x : Bool). x || is_set all t) (one_sort option first.0 s t first.1 writes) ∙ sym (set_by all s t) in
     subst (λ (n : Settings). CanRead n rest) (sym is) (can_read_alike (also_set all first.0) (also_set all s) same rest first.3)
 
--- two settings of one option are set or not alike
+-- of two settings of one sort both are set, or neither is
 pub set_alike : (all : Settings) (s t : Setting) → is_same_sort s t ≡ true → is_set all s ≡ is_set all t
 set_alike all (setting.Base x) (setting.Base y) same = refl
 set_alike all (setting.Size x) (setting.Size y) same = refl

@@ -42,7 +42,7 @@ no_open verb words is none Unblock same given = apart verb (codes "open") (codes
 no_open verb words is none Info same given = apart verb (codes "open") (codes "info") 0 is same refl
 no_open verb words is none Close same given = apart verb (codes "open") (codes "close") 0 is same refl
 
--- a chunk whose words give none
+-- the verb `chunk`, with words that are not those of a chunk
 pub no_chunk : (verb : List ℕ) (words : List (List ℕ)) → verb ≡ codes "chunk" → ((from : Start) (most : ℕ) → GivesChunk words from most → ⊥) → (request : Request) → verb ≡ request_word request → GivesRequest words request → ⊥
 no_chunk verb words is none (Open kind settings) same given = apart verb (codes "chunk") (codes "open") 0 is same refl
 no_chunk verb words is none (Log items) same given = apart verb (codes "chunk") (codes "log") 0 is same refl
@@ -59,7 +59,7 @@ no_chunk verb words is none Unblock same given = apart verb (codes "chunk") (cod
 no_chunk verb words is none Info same given = apart verb (codes "chunk") (codes "info") 0 is same refl
 no_chunk verb words is none Close same given = apart verb (codes "chunk") (codes "close") 1 is same refl
 
--- a step whose words give none
+-- the verb `step`, with words that are not those of a step
 pub no_step : (verb : List ℕ) (words : List (List ℕ)) → verb ≡ codes "step" → ((from : Start) (by : ℤ) → GivesStep words from by → ⊥) → (request : Request) → verb ≡ request_word request → GivesRequest words request → ⊥
 no_step verb words is none (Open kind settings) same given = apart verb (codes "step") (codes "open") 0 is same refl
 no_step verb words is none (Log items) same given = apart verb (codes "step") (codes "log") 0 is same refl
@@ -76,7 +76,7 @@ no_step verb words is none Unblock same given = apart verb (codes "step") (codes
 no_step verb words is none Info same given = apart verb (codes "step") (codes "info") 0 is same refl
 no_step verb words is none Close same given = apart verb (codes "step") (codes "close") 0 is same refl
 
--- a truncate whose words give none
+-- the verb `truncate`, with words that are not those of a truncate
 pub no_truncate : (verb : List ℕ) (words : List (List ℕ)) → verb ≡ codes "truncate" → ((head : Option (Bor (List ℕ))) → GivesHead words head → ⊥) → (request : Request) → verb ≡ request_word request → GivesRequest words request → ⊥
 no_truncate verb words is none (Open kind settings) same given = apart verb (codes "truncate") (codes "open") 0 is same refl
 no_truncate verb words is none (Log items) same given = apart verb (codes "truncate") (codes "log") 0 is same refl
@@ -93,7 +93,7 @@ no_truncate verb words is none Unblock same given = apart verb (codes "truncate"
 no_truncate verb words is none Info same given = apart verb (codes "truncate") (codes "info") 0 is same refl
 no_truncate verb words is none Close same given = apart verb (codes "truncate") (codes "close") 0 is same refl
 
--- a reopen whose words give none
+-- the verb `reopen`, with words that are not those of a reopen
 pub no_reopen : (verb : List ℕ) (words : List (List ℕ)) → verb ≡ codes "reopen" → ((target : Base) (head : Option (Bor (List ℕ))) → GivesMove words target head → ⊥) → (request : Request) → verb ≡ request_word request → GivesRequest words request → ⊥
 no_reopen verb words is none (Open kind settings) same given = apart verb (codes "reopen") (codes "open") 0 is same refl
 no_reopen verb words is none (Log items) same given = apart verb (codes "reopen") (codes "log") 0 is same refl
@@ -110,7 +110,7 @@ no_reopen verb words is none Unblock same given = apart verb (codes "reopen") (c
 no_reopen verb words is none Info same given = apart verb (codes "reopen") (codes "info") 0 is same refl
 no_reopen verb words is none Close same given = apart verb (codes "reopen") (codes "close") 0 is same refl
 
--- a size whose words give none
+-- the verb `size`, with words that are not those of a size
 pub no_size : (verb : List ℕ) (words : List (List ℕ)) → verb ≡ codes "size" → ((size : Size) → GivesSize words size → ⊥) → (request : Request) → verb ≡ request_word request → GivesRequest words request → ⊥
 no_size verb words is none (Open kind settings) same given = apart verb (codes "size") (codes "open") 0 is same refl
 no_size verb words is none (Log items) same given = apart verb (codes "size") (codes "log") 0 is same refl
@@ -127,7 +127,7 @@ no_size verb words is none Unblock same given = apart verb (codes "size") (codes
 no_size verb words is none Info same given = apart verb (codes "size") (codes "info") 0 is same refl
 no_size verb words is none Close same given = apart verb (codes "size") (codes "close") 0 is same refl
 
--- a block whose words give none
+-- the verb `block`, with words that are not those of a block
 pub no_block : (verb : List ℕ) (words : List (List ℕ)) → verb ≡ codes "block" → ((queue : Bool) → GivesBlock words queue → ⊥) → (request : Request) → verb ≡ request_word request → GivesRequest words request → ⊥
 no_block verb words is none (Open kind settings) same given = apart verb (codes "block") (codes "open") 0 is same refl
 no_block verb words is none (Log items) same given = apart verb (codes "block") (codes "log") 0 is same refl
@@ -144,12 +144,12 @@ no_block verb words is none Unblock same given = apart verb (codes "block") (cod
 no_block verb words is none Info same given = apart verb (codes "block") (codes "info") 0 is same refl
 no_block verb words is none Close same given = apart verb (codes "block") (codes "close") 0 is same refl
 
--- what is given where no word is left
-pub where_ended : {A : Type 0} (P : A → Type 0) (x : A) (rest : List (List ℕ)) → (rest ≡ [] → P x) → (b : Bool) → b ≡ (length rest == 0) → (r : Option A) → r ≡ then_some b x → IfSome r P
-where_ended P x rest holds b all None e = tt
-where_ended P x [] holds true all (Some y) e = let same : x ≡ y = cc in subst P same (holds refl)
-where_ended P x (word ∷ rest) holds true all (Some y) e = let bad : ⊥ = cc (eqb-suc-zero (length rest)) in absurd bad
-where_ended P x rest holds false all (Some y) e = let bad : ⊥ = cc in absurd bad
+-- what is given if no word is left
+pub if_ended : {A : Type 0} (P : A → Type 0) (x : A) (rest : List (List ℕ)) → (rest ≡ [] → P x) → (b : Bool) → b ≡ (length rest == 0) → (r : Option A) → r ≡ then_some b x → IfSome r P
+if_ended P x rest holds b all None e = tt
+if_ended P x [] holds true all (Some y) e = let same : x ≡ y = cc in subst P same (holds refl)
+if_ended P x (word ∷ rest) holds true all (Some y) e = let bad : ⊥ = cc (eqb-suc-zero (length rest)) in absurd bad
+if_ended P x rest holds false all (Some y) e = let bad : ⊥ = cc in absurd bad
 
 -- one word, and no other
 pub only_word : (words rest : List (List ℕ)) (word : List ℕ) (b : Bool) → words ≡ word ∷ rest → b ≡ (length rest == 0) → b ≡ true → words ≡ word ∷ []

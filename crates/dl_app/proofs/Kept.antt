@@ -1,4 +1,4 @@
--- Where each client goes on once one place is kept.
+-- Where each client goes on reading after one place was kept.
 use Rattle.std.proofs.Common.{◌≡◌, ℕ, List, Bool, true, false, cond, ◌&&◌, Result, Ok, Err, OnOk, refl, sym, ◌∙◌, ap, ◌⊎◌, inl, inr}
 use Rattle.std.proofs.lemmas.Bool.{eqb-true}
 use Rattle.dl_types.specs.declared.name.ClientId.{ClientId}
@@ -9,12 +9,8 @@ use Rattle.dl_types.specs.declared.place.Place.TheVariants.{At}
 use Rattle.dl_types.specs.declared.reply.Reply.{Reply}
 use Rattle.dl_types.specs.declared.reply.Reply.TheVariants as reply
 use Rattle.dl_types.specs.Name.{same_client, same_name}
-use Rattle.dl_types.proofs.Keys.{name_decides}
+use Rattle.dl_types.proofs.Keys.{name_decides, both}
 use Rattle.dl_app.specs.Places.{places_after, given_place}
-
-both : (a b : Bool) → (a && b) ≡ true → (a ≡ true) × (b ≡ true)
-both true b e = (refl, e)
-both false b e = let bad : ⊥ = cc in absurd bad
 
 client_is : (a b : ClientId) → same_client a b ≡ true → a ≡ b
 client_is a b e = let same = eqb-true a.0 b.0 e in λ i. record { 0 = same i }

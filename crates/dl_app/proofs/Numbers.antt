@@ -1,4 +1,4 @@
--- When a word is a number, as far as it is read.
+-- Whether a word is a number, by as much of it as was read.
 use Rattle.std.proofs.Common.{◌≡◌, ℕ, zero, suc, ◌+◌, ◌*◌, ◌^◌, ◌<◌, ◌≤◌, Bool, true, false, ◌&&◌, cond, Some, None, List, [], ◌∷◌, length, take, get_or, refl, nat_lt, arith}
 use Rattle.std.specs.List.{list_all}
 use Rattle.std.specs.Char.{is_ascii_digit, digit_value}
@@ -34,7 +34,7 @@ pub bad_digit : (word : List ℕ) (i : ℕ) → i < length word → is_ascii_dig
 bad_digit word i within bad =
     rw (list_all_at is_ascii_digit word i 0 within bad) (no_digits (nat_lt 0 (length word)) (nat_lt (digits_value 10 word) (2 ^ 64)) (digits_value 10 word))
 
--- a number that is too large as far as it is read, with one digit more
+-- a word whose number is too large with one digit more than was read
 pub overflows : (word : List ℕ) (i : ℕ) → i < length word → 2 ^ 64 ≤ digits_value 10 (take i word) * 10 + digit_value (get_or word i 0) → number_in word ≡ None
 overflows word i within large =
     let more = prefix_after_le 0 word (i + 1) in
@@ -42,11 +42,11 @@ overflows word i within large =
     let much : 2 ^ 64 ≤ digits_value 10 word = omega arith in
     rw (le-ltb (digits_value 10 word) (2 ^ 64) much) (too_large (nat_lt 0 (length word)) (list_all is_ascii_digit word) (digits_value 10 word))
 
--- digits to the end
+-- a word of digits alone
 pub is_number : (word : List ℕ) → 0 < length word → list_all is_ascii_digit word ≡ true → digits_value 10 word < 2 ^ 64 → number_in word ≡ Some (digits_value 10 word)
 is_number word some digits small =
     rw (lt-ltb 0 (length word) some, digits, lt-ltb (digits_value 10 word) (2 ^ 64) small) refl
 
--- what a digit counts
+-- the value of a digit
 pub digit_of : (b : ℕ) → is_ascii_digit b ≡ true → digit_value b + 48 ≡ b
 digit_of b e = let h : IsInRange 48 57 b = grind (arith, leb_tells) in digit_value_digit b h

@@ -34,7 +34,7 @@ first_parts word k h =
     let rest : drop k word ≡ 120 ∷ drop (k + 1) word = drop_more word k 0 h.0.high ∙ ap (λ (b : ℕ). b ∷ drop (k + 1) word) at in
     (sym (take-append-drop k word) ∙ ap (λ (r : List ℕ). take k word ++ r) rest, none_up word k (omega (arith, h.0.high)) (λ j below. h.0.before j (omega arith) below))
 
--- a word with none
+-- a word with no `x`
 pub no_parts : (word : List ℕ) → IsFirstByte (is_byte 120) word None → list_any is_x word ≡ false
 no_parts word h = ap (list_any is_x) (sym (take_all (length word) word (omega arith))) ∙ none_up word (length word) (omega arith) (λ j below. h j (omega arith) below)
 
@@ -54,11 +54,11 @@ digits_alone (b ∷ word) all =
 number_alone : (word : List ℕ) (n : ℕ) → number_in word ≡ Some n → list_any is_x word ≡ false
 number_alone word n e = digits_alone word (second_holds (nat_lt 0 (length word)) (list_all is_ascii_digit word) (nat_lt (digits_value 10 word) (2 ^ 64)) (digits_value 10 word) n e)
 
--- what an `x` parts has one
+-- a word that an `x` separates into two parts has one
 parts_have : (word before after : List ℕ) → word ≡ before ++ (codes "x" ++ after) → list_any is_x word ≡ true
 parts_have word before after parts = ap (list_any is_x) parts ∙ list_any-append is_x before (120 ∷ after) ∙ or_right (list_any is_x before) true refl
 
--- two texts that are each parted at its first `x` are parted alike
+-- the parts before and after the first `x` of a text are determined by the text
 parts_alike : (a b c d : List ℕ) → list_any is_x a ≡ false → list_any is_x c ≡ false → a ++ 120 ∷ b ≡ c ++ 120 ∷ d → (a ≡ c) × (b ≡ d)
 parts_alike [] b [] d p q e = (refl, cc)
 parts_alike [] b (y ∷ c) d p q e =

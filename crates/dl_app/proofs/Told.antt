@@ -3,13 +3,6 @@ use Rattle.std.proofs.Common.{◌≡◌, ℕ, List, [], ◌∷◌, ◌++◌, Res
 use Rattle.dl_types.specs.Notice.{Told}
 use Rattle.dl_app.specs.Notices.{AreDeliveryTexts, IsDeliveryText}
 
--- a text after others
-pub after_front : {A E : Type 0} (r : Result A E) (Says : List ℕ → Type 0) (front old mid new : List ℕ) → mid ≡ old ++ front → OnOk r ((x : List ℕ) × Says x × (new ≡ mid ++ x))
-    → OnOk r ((t : List ℕ) × ((x : List ℕ) × Says x × (t ≡ front ++ x)) × (new ≡ old ++ t))
-after_front (Ok y) Says front old mid new at h =
-    (front ++ h.0, (h.0, h.1, refl), h.2 ∙ ap (λ (l : List ℕ). l ++ h.0) at ∙ append_assoc old front h.0)
-after_front (Err e) Says front old mid new at h = tt
-
 -- a text that grew twice
 pub grows : (old mid new front text : List ℕ) → mid ≡ old ++ front → new ≡ mid ++ text → new ≡ old ++ (front ++ text)
 grows old mid new front text first second = second ∙ ap (λ (l : List ℕ). l ++ text) first ∙ append_assoc old front text

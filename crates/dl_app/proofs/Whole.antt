@@ -27,7 +27,7 @@ module _ {D : Type 0} (state : D → DiskState) (Z : Type 0) (line : List ℕ) (
     answered = (first, others, answered, rest.answered, is);
   }
 
-  -- a line that ran one
+  -- a line that ran an event
   ran : (cmd : Command) (e : Event Z) (o : Outcome Z) → IsForm (words_of line) cmd → IsEventOf Z cmd e → AnswersEvent state Z e o old mid first → IsWhole Z state lines mid new others
       → IsWhole Z state (line ∷ lines) old new answers
   ran cmd e o form of did rest =
@@ -42,7 +42,7 @@ module _ {D : Type 0} (state : D → DiskState) (Z : Type 0) (line : List ℕ) (
   abbrev Whole : Type 0
   Whole = IsWhole Z state (line ∷ lines) old.hub new.hub answers
 
-  -- a call, which may be refused before
+  -- a call, which may be refused before it is an event
   called : (client : ClientId) (log : Name) (request : Request) (from : Place) (refused : Option Refusal) → IsForm (words_of line) (command.Call client log request)
       → IsCalled state Z refused client log (call_in request from) old mid first → Whole
   called client log request from (Some refusal) form did = unrun state Z line lines old.hub mid.hub new.hub first others answers is (ap (λ (s : Stage D). s.hub) did.0) (inr (refusal, did.1)) rest

@@ -33,7 +33,7 @@ by_letter (setting.Notify x) (setting.Notify y) = refl
 by_letter (setting.Link x) (setting.Link y) = refl
 by_letter s t = refl
 
--- what an option writes is of the same sort as any other setting, or is not, alike
+-- of two settings that one option writes both are of the same sort as a third one, or neither is
 pub one_sort : (option : List ℕ) (s t u : Setting) → WritesSetting option s → WritesSetting option t → is_same_sort s u ≡ is_same_sort t u
 one_sort option s t u p q =
     let same : letter s ≡ letter t = sym (letter_reads option s p) ∙ letter_reads option t q in

@@ -26,7 +26,7 @@ items_text bad items = codes "items " ++ decimal bad ++ flat_map item_text items
 abbrev pub place_text : Continuation → List ℕ
 place_text place = codes "at " ++ decimal place.generation ++ codes " " ++ decimal place.passed
 
--- a text says why a call is refused: which text it is is left open here
+-- the text of a refusal: nothing is said of it here
 abbrev pub IsRefusalText : Refusal → List ℕ → Type 0
 IsRefusalText refusal text = Unit {0}
 

@@ -50,12 +50,12 @@ GivesChunk words from most = (count : List ℕ) × (number_in count ≡ Some mos
 abbrev pub GivesStep : List (List ℕ) → Start → ℤ → Type 0
 GivesStep words from by = (count : List ℕ) × (step_of (whole_in count) ≡ Some by) × (words ≡ start_word from ∷ count ∷ [])
 
--- a word of an item, or none
+-- a word of an item, or no word
 abbrev pub GivesHead : List (List ℕ) → Option (Bor (List ℕ)) → Type 0
 GivesHead words None = words ≡ []
 GivesHead words (Some word) = (is_item word.now ≡ true) × (words ≡ word.now ∷ [])
 
--- a base, and then a word of an item, or none
+-- a base, and then a word of an item, or no word
 abbrev pub GivesMove : List (List ℕ) → Base → Option (Bor (List ℕ)) → Type 0
 GivesMove words target head = (base : List ℕ) × (others : List (List ℕ)) × IsNameText base × (target ≡ base_from base) × GivesHead others head × (words ≡ base ∷ others)
 
@@ -133,7 +133,7 @@ abbrev pub place_from : Start → Place → Place
 place_from start.First next = place.Start
 place_from start.Next next = next
 
--- the call that is asked for
+-- the call that a request asks for
 abbrev pub call_in : {Z : Type 0} → Request → Place → Call Z
 call_in (request.Open kind settings) next = call.Open (args_of settings (plain_args kind))
 call_in (request.Log items) next = call.Log (map item_bytes (words_left items))
@@ -150,7 +150,7 @@ call_in request.Unblock next = call.Unblock
 call_in request.Info next = call.Info
 call_in request.Close next = call.Close
 
--- why it is refused before it is a call
+-- why a request is refused before it is a call
 abbrev pub refusal_in : Request → Option Refusal
 refusal_in (request.Open kind settings) = head_refusal settings.head
 refusal_in (request.Log items) = refusal_of (words_left items)

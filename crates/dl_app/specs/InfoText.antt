@@ -1,4 +1,4 @@
--- What a log tells about itself as bytes.
+-- The info of a log as bytes.
 use Rattle.std.specs.Prelude.{ℕ, List, [], ◌∷◌, ◌++◌, Bool, true, false, Option, Some, None, codes}
 use Rattle.std.specs.Fmt.{decimal}
 use Rattle.std.specs.List.{flat_map}
@@ -40,7 +40,7 @@ owner_text owner = decimal owner.client.0 ++ codes ":" ++ yes_or_no owner.notify
 abbrev pub next_owner_text : Owner → List ℕ
 next_owner_text owner = 44 ∷ owner_text owner
 
--- owners, parted by commas
+-- owners, separated by commas
 abbrev pub owners_text : List Owner → List ℕ
 owners_text [] = codes "none"
 owners_text (owner ∷ owners) = owner_text owner ++ flat_map next_owner_text owners
@@ -55,7 +55,7 @@ status_word (Some false) = codes "blocked-refuse"
 abbrev pub users_text : ℕ → Option Bool → List ℕ
 users_text users blocked = codes " users=" ++ decimal users ++ codes " " ++ status_word blocked
 
--- how often the log went to its next file: since it was opened, and since it was last asked
+-- how often the log went to its next file: since it was opened, and since the last info
 abbrev pub overflows_text : Overflows → List ℕ
 overflows_text overflows = codes " overflows=" ++ decimal overflows.since_open ++ codes "," ++ decimal overflows.since_info
 
@@ -75,7 +75,7 @@ head_text None = codes "none"
 head_text (Some []) = codes "-"
 head_text (Some (b ∷ bytes)) = flat_map hex (b ∷ bytes)
 
--- what is told in read-write mode alone
+-- the fields that only a log in read-write mode has
 abbrev pub writing_text : {Z : Type 0} → Writing Z → List ℕ
 writing_text writing = codes " head=" ++ head_text writing.head ++ codes " written=" ++ decimal writing.written ++ extent_text writing.extent
 
@@ -83,7 +83,7 @@ abbrev pub more_text : {Z : Type 0} → Option (Writing Z) → List ℕ
 more_text None = []
 more_text (Some writing) = writing_text writing
 
--- what a log tells about itself
+-- the info of a log
 abbrev pub info_text : {Z : Type 0} → Info Z → List ℕ
 info_text info =
     names_text info.log info.base ++ form_text info.kind info.size info.mode ++ codes " owners=" ++ owners_text info.owners ++ users_text info.users info.blocked ++ more_text info.writing

@@ -38,7 +38,7 @@ bytes_from (Some count) word = replicate count (copied_in word)
 abbrev pub item_bytes : List ℕ → List ℕ
 item_bytes word = bytes_from (copies_in word) word
 
--- an item that is longer than any may be
+-- a word whose item is longer than an item may be
 abbrev pub is_too_long : List ℕ → Bool
 is_too_long word = nat_lt ITEM_LIMIT (length (item_bytes word))
 
@@ -53,7 +53,7 @@ abbrev pub head_bytes : Option (Bor (List ℕ)) → Option (List ℕ)
 head_bytes None = None
 head_bytes (Some word) = Some (item_bytes word.now)
 
--- why it is refused
+-- why that item is refused
 abbrev pub head_refusal : Option (Bor (List ℕ)) → Option Refusal
 head_refusal None = None
 head_refusal (Some word) = if is_too_long word.now then Some (refusal.BadArg argument.Item) else None

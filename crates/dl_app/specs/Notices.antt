@@ -40,11 +40,11 @@ IsNoticeText (ReadOnly items) text = text ≡ sent_text (codes "readonly") items
 IsNoticeText (Blocked items) text = text ≡ sent_text (codes "blocked") items
 IsNoticeText NoSuchLog text = text ≡ codes "nosuchlog"
 
--- a bar, the client that is told, and the log
+-- a bar, the client that gets the notice, and the log
 abbrev pub told_text : ClientId → Name → List ℕ
 told_text client log = codes " | " ++ decimal client.0 ++ codes " " ++ characters_of (name_text log) ++ codes " "
 
--- who is told, and the notice
+-- the client and the log of a notice, and then what it says
 abbrev pub IsDeliveryText : Told → List ℕ → Type 0
 IsDeliveryText delivery text = (said : List ℕ) × IsNoticeText delivery.notice said × (text ≡ told_text delivery.client delivery.log ++ said)
 

@@ -15,7 +15,7 @@ use Rattle.dl_app.specs.declared.places.Reader.{Reader}
 abbrev pub same_reader : Reader → Reader → Bool
 same_reader a b = same_client a.client b.client && same_name a.log b.log
 
--- the start, where no place was given
+-- the place that was given, or the start if there is none
 abbrev pub start_or : Option Continuation → Place
 start_or None = Start
 start_or (Some place) = At place
@@ -24,11 +24,11 @@ start_or (Some place) = At place
 abbrev pub place_of : {Z : Type 0} → Places Z → ClientId → Name → Place
 place_of places client log = start_or (get same_reader places.given (record { client = client; log = log }))
 
--- where clients go on once one of them was given a place
+-- where clients go on after one of them was given a place
 abbrev pub given_place : Continuation → ClientId → Name → (ClientId → Name → Place) → ClientId → Name → Place
 given_place next client log places = λ c l. if same_client client c && same_name log l then At next else places c l
 
--- where clients go on after a reply to one of them: at the place behind its items, or at the place that a step led to
+-- where clients go on after a reply to one of them: at the place after its items, or at the place that a step led to
 abbrev pub places_after : {Z : Type 0} → Reply Z → ClientId → Name → (ClientId → Name → Place) → ClientId → Name → Place
 places_after reply.Opened client log places = places
 places_after (reply.Repaired recovered bad) client log places = places

@@ -39,7 +39,7 @@ pub record Stage (D : Type 0) : Type 0 where
 abbrev pub first_stage : {D : Type 0} → HubView D → Stage D
 first_stage hub = record { hub = hub; places = λ c l. Start }
 
--- a text says what was read of a file; want of memory is not answered
+-- a text says what was read of a file; there is none if memory was refused
 abbrev pub IsShown : FileName → Result (Option (List ℕ)) FileFault → List ℕ → Type 0
 IsShown file (Ok (Some bytes)) text = text ≡ flat_map hex bytes
 IsShown file (Ok None) text = text ≡ codes "no file"
@@ -68,7 +68,7 @@ module _ {D : Type 0} (state : D → DiskState) (Z : Type 0) where
     pub run : IsRun state old new (event ∷ []) (outcome ∷ [])
     pub line : IsLineOf (IsOutcomeText outcome) answer
 
-  -- a call is run as an event; one that is refused before changes nothing
+  -- a call is run as an event; one that is refused before that changes nothing
   abbrev pub IsCalled : Option Refusal → ClientId → Name → Call Z → Stage D → Stage D → List ℕ → Type 0
   IsCalled (Some refusal) client log call old new answer = (new ≡ old) × IsLineOf (IsRefusalText refusal) answer
   IsCalled None client log call old new answer =

@@ -20,7 +20,7 @@ use Rattle.dl_app.specs.Words.{words_of}
 abbrev pub ShowsNoFile : List ℕ → Type 0
 ShowsNoFile line = (file : FileName) → IsForm (words_of line) (command.File file) → ⊥
 
--- so is each of these
+-- none of these lines shows a file
 abbrev pub ShowNoFile : List (List ℕ) → Type 0
 ShowNoFile [] = ⊤
 ShowNoFile (line ∷ lines) = ShowsNoFile line × ShowNoFile lines
@@ -33,7 +33,7 @@ module _ (Z : Type 0) where
   IsEventOf (command.File file) e = ⊥
   IsEventOf command.Flush e = e ≡ event.Flush
 
-  -- an event, and what came of it
+  -- an event, and its outcome
   pub record Deed : Type 0 where
     pub event : Event Z
     pub outcome : Outcome Z
@@ -57,7 +57,7 @@ module _ (Z : Type 0) where
   events_of (None ∷ deeds) = events_of deeds
   events_of (Some deed ∷ deeds) = deed.event ∷ events_of deeds
 
-  -- what came of them
+  -- the outcomes of these events
   abbrev pub outcomes_of : List (Option Deed) → List (Outcome Z)
   outcomes_of [] = []
   outcomes_of (None ∷ deeds) = outcomes_of deeds

@@ -10,7 +10,7 @@ use Rattle.dl_types.specs.declared.size.Size.{Size}
 use Rattle.dl_types.specs.declared.size.Size.TheVariants.{Infinity, Limit, Wrap}
 use Rattle.dl_app.specs.declared.words.Words.{Words}
 
--- the words of a text, which one space parts
+-- the words of a text, separated by one space each
 abbrev pub words_of : List ℕ → List (List ℕ)
 words_of text = slice_split (λ b. b == 32) text
 
@@ -18,17 +18,17 @@ abbrev pub words_in : Option (Bor (List ℕ)) → List (List ℕ)
 words_in None = []
 words_in (Some text) = words_of text.now
 
--- the words that are not taken yet
+-- the words that are still to be read
 abbrev pub words_left : Words → List (List ℕ)
 words_left words = words_in words.rest
 
--- the number that a word of one digit or more writes, where it has 64 bits
+-- the number that a word of one digit or more writes, if it fits 64 bits
 abbrev pub number_in : List ℕ → Option ℕ
 number_in word =
     if nat_lt 0 (length word) && list_all is_ascii_digit word && nat_lt (digits_value 10 word) (2 ^ 64)
     then Some (digits_value 10 word) else None
 
--- the client of a number, where it has 32 bits
+-- the client of a number, if the number fits 32 bits
 abbrev pub client_of : Option ℕ → Option ClientId
 client_of None = None
 client_of (Some n) = if nat_lt n (2 ^ 32) then Some (record { 0 = n }) else None
@@ -43,12 +43,12 @@ abbrev pub has_32_bits : ℤ → Bool
 has_32_bits (pos n) = nat_lt n (2 ^ 31)
 has_32_bits (negsuc n) = nat_lt n (2 ^ 31)
 
--- the number of files that a step leads on, where it has 32 bits
+-- the number of files that a step leads on, if it fits 32 bits
 abbrev pub step_of : Option ℤ → Option ℤ
 step_of None = None
 step_of (Some n) = if has_32_bits n then Some n else None
 
--- the number of files of a wrap log, where it has 32 bits
+-- the number of files of a wrap log, if it fits 32 bits
 abbrev pub files_of : Option ℕ → Option ℕ
 files_of None = None
 files_of (Some n) = if nat_lt n (2 ^ 32) then Some n else None

@@ -50,7 +50,7 @@ fn is_item_byte(byte: u8) -> bool
     ITEM_BYTES[byte as usize] != b'*'
 }
 
-// Whether all bytes may.
+// Whether all these bytes may be in such a word.
 fn are_item_bytes(bytes: &[u8]) -> bool
     ensures { result ≡ list_all is_item_byte bytes.now }
 {
@@ -67,7 +67,7 @@ pub fn is_item(word: &[u8]) -> bool
     }
 }
 
-// How many bytes the item has that is written so.
+// The length of the item that is written so.
 fn item_length(written: Written<'_>) -> u64
     ensures { (word : List ℕ) → IsReadAs word written.entry → result ≡ length (item_bytes word) }
 {

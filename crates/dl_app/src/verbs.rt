@@ -29,7 +29,7 @@ pub fn verb_of<'a>(verb: &[u8], words: Words<'a>) -> Option<Request<'a>>
     other_of(verb, words)
 }
 
-// The call of another verb than the one that comes most.
+// The call of any verb but `log`, the most frequent one.
 #[inline(never)]
 fn other_of<'a>(verb: &[u8], words: Words<'a>) -> Option<Request<'a>>
     requires { verb.now ≢ codes "log" }
@@ -147,7 +147,7 @@ fn start_of(word: &[u8]) -> Option<Start>
     }
 }
 
-// The item that a log is to begin with once it is emptied, if there is one.
+// The item that a log is to begin with after it is emptied, if there is one.
 fn truncate_of(words: Words<'_>) -> Option<Request<'_>>
     ensures form { IfSome result (λ request. (request_word request ≡ codes "truncate") × GivesRequest (words_left words.entry) request) }
     ensures none { IfNone result ((head : Option (Bor (List ℕ))) → GivesHead (words_left words.entry) head → ⊥) }
@@ -156,7 +156,7 @@ fn truncate_of(words: Words<'_>) -> Option<Request<'_>>
     Some(Request::Truncate { head })
 }
 
-// The base that a log's file is to have, and the item that its next file is to begin with, if there is one.
+// The base that a log's files are to have, and the first item of its next file, if there is one.
 fn reopen_of(mut words: Words<'_>) -> Option<Request<'_>>
     ensures form { IfSome result (λ request. (request_word request ≡ codes "reopen") × GivesRequest (words_left words.entry) request) }
     ensures none { IfNone result ((target : Base) (head : Option (Bor (List ℕ))) → GivesMove (words_left words.entry) target head → ⊥) }
@@ -198,7 +198,7 @@ fn block_of(mut words: Words<'_>) -> Option<Request<'_>>
     words.is_empty().then_some(Request::Block { queue })
 }
 
-// Whether a word has calls suspended, and not refused.
+// Whether a word has calls suspended (`true`) or refused.
 fn queue_of(word: &[u8]) -> Option<bool>
     ensures form { IfSome result (λ queue. word.now ≡ block_word queue) }
     ensures none { IfNone result ((queue : Bool) → word.now ≡ block_word queue → ⊥) }

@@ -20,7 +20,7 @@ pub laws : IsEquivalence eq
 laws = decides_laws eq file_eq_decides
 
 module _ {X : Type 0} (name : FileName) where
-  -- a list with no further entries has no name more
+  -- a name that is not in a list is not in one that has only entries of it
   pub closed_within : (es fs : List (FileName × X)) → ((e : FileName × X) → Contains fs e → Contains es e) → lookup (eq name) es ≡ None → lookup (eq name) fs ≡ None
   closed_within es fs sub none = lookup-none (eq name) fs (all_from _ fs (λ e c. all_at _ es e (none_passes_from_lookup (eq name) es none) (sub e c)))
 

@@ -18,7 +18,7 @@ abbrev eq : FileName → FileName → Bool
 eq = file_ghosts.eq
 
 -- ---- a finite map after one change
--- where the order says that two names are one, so does `==`
+-- the order says that two names are the same exactly if `==` does
 ties : (f g : FileName) → eq_by_cmp file_cmp f g ≡ eq g f
 ties f g = file_cmp_eq f g ∙ (decides_laws eq file_eq_decides).symm f g
 
@@ -35,11 +35,11 @@ pub others_kept : (m : Content) (file : FileName) (text : List ℕ) (f : FileNam
 others_kept m file text f ne = get-insert file_cmp_total m file text f ∙ at_name file f m (Some text)
     ∙ ap (λ t. cond t (Some text) (finite.get m f)) (apart eq file_eq_decides file f ne)
 
--- where a file was removed, another one is as it was
+-- if a file was removed, another one is as it was
 pub others_removed : (m : Content) (file f : FileName) → f ≢ file → finite.get (remove m file) f ≡ finite.get m f
 others_removed m file f ne = get-remove file_cmp_total m file f ∙ ap (λ t. cond t None (finite.get m f)) (ties f file ∙ apart eq file_eq_decides file f ne)
 
--- a file put in its own place changes nothing
+-- putting the bytes that a file already has changes nothing
 pub put_again : (m : Content) (file : FileName) (text : List ℕ) → finite.get m file ≡ Some text → insert m file text ≡ m
 put_again m file text is = same_map file_cmp_total file_cmp_exact _ _ (λ f. get-insert file_cmp_total m file text f ∙ at_name file f m (Some text) ∙ by_test f (eq file f) refl)
   where
@@ -87,11 +87,11 @@ module _ {Z : Type 0} where
   pub content_at : (es : List (FileName × Vec ℕ Z)) (f : FileName) → finite.get (content_of es) f ≡ option_map bytes_of (lookup (eq f) es)
   content_at es f = get-from_entries file_cmp_total (map with_bytes es) f ∙ found es f
 
-  -- the same where the look-up has been made
+  -- the same, if the look-up has been made
   pub content_is : (es : List (FileName × Vec ℕ Z)) (f : FileName) (o : Option (Vec ℕ Z)) → o ≡ lookup (eq f) es → finite.get (content_of es) f ≡ option_map bytes_of o
   content_is es f o is = content_at es f ∙ ap (option_map bytes_of) (sym is)
 
-  -- and so where what was found is too short
+  -- if what was found is too short, so is the file
   pub shorter_is : (es : List (FileName × Vec ℕ Z)) (f : FileName) (o : Option (Vec ℕ Z)) (end : ℕ) → o ≡ lookup (eq f) es
       → IsShorter (option_map bytes_of o) end → IsShorter (finite.get (content_of es) f) end
   shorter_is es f o end is short = subst (λ (t : Option (List ℕ)). IsShorter t end) (sym (content_is es f o is)) short

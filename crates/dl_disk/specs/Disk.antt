@@ -5,19 +5,19 @@ use Rattle.dl_types.specs.declared.name.Base.{Base}
 use Rattle.dl_types.specs.declared.file.FileName.{FileName}
 use Rattle.dl_types.specs.FileName.{Content}
 
--- the files that are there with their bytes; whether what was read was what had been written, so far; the faults so far, by base;
--- and which bases have a place where theirs are counted
+-- the files that are there with their bytes; whether all that was read so far was what had been written; the faults so far, by base;
+-- and which bases have a count of faults
 pub record DiskState : Type 0 where
   pub content : Content
   pub honest : Bool
   pub faults : Base → ℕ
   pub known : Base → Bool
 
--- a count went up, or stands at the greatest number, from where it cannot
+-- a count went up, or is the greatest number and cannot go up
 abbrev pub Rises : ℕ → ℕ → Type 0
 Rises old new = (old < new) ⊎ (2 ^ 64 ≤ new + 1)
 
--- a count that is seen not to have gone up
+-- a count that did not go up, and would have if there had been a fault, since it is below the greatest number
 pub record IsQuiet (old new : ℕ) : Type 0 where
   pub same : new ≡ old
   pub seen : new + 1 < 2 ^ 64
@@ -34,13 +34,13 @@ pub record IsCallOn {T E : Type 0} (base : Base) (old new : DiskState) (result :
   pub counts : Counts base old.faults new.faults result
   pub stayed : IsTrue new.honest → IsTrue old.honest
 
--- what a call leaves that counts no fault
+-- what a call that counts no fault leaves
 pub record IsUncounted (old new : DiskState) : Type 0 where
   pub knows : (b : Base) → IsTrue (old.known b) → IsTrue (new.known b)
   pub counts : (b : Base) → new.faults b ≡ old.faults b
   pub stayed : IsTrue new.honest → IsTrue old.honest
 
--- the bytes of a file, and none where it is not there
+-- the bytes of a file, or none if there is no such file
 abbrev pub text_at : Content → FileName → List ℕ
 text_at content file = unwrap_or (map.get content file) []
 
@@ -54,12 +54,12 @@ pub record Torn (old : List ℕ) (at n : ℕ) (new : List ℕ) : Type 0 where
   pub before : take at new ≡ take at old
   pub after : drop (at + n) (take (length old) new) ≡ drop (at + n) old
 
--- no file is still none, and a file is torn at most
+-- a file that does not exist still doesn't, and one that does is torn at most
 abbrev pub TornAt : Option (List ℕ) → ℕ → ℕ → Option (List ℕ) → Type 0
 TornAt None at n new = new ≡ None
 TornAt (Some old) at n new = (text : List ℕ) × (new ≡ Some text) × Torn old at n text
 
--- no file is there, or it has not so many bytes
+-- there is no such file, or it has fewer bytes than this
 abbrev pub IsShorter : Option (List ℕ) → ℕ → Type 0
 IsShorter None end = ⊤
 IsShorter (Some text) end = length text < end

@@ -16,7 +16,7 @@ pub record FuseView (D : Type 0) : Type 0 where
   pub passed : ℕ
   pub counts : List (Base × ℕ)
 
--- the fuse is there for the files of this base
+-- the fuse counts the calls on the files of this base
 abbrev pub is_met : Option Base → Base → Bool
 is_met None base = true
 is_met (Some own) base = same_base own base
@@ -26,7 +26,7 @@ abbrev pub is_spent : Option ℕ → Bool
 is_spent None = false
 is_spent (Some calls) = nat_eq calls 0
 
--- a fuse after it blew
+-- how many calls are left to pass after the fuse blew: all, or none
 abbrev pub blown : Fuse → Option ℕ
 blown One = None
 blown All = Some 0
@@ -52,7 +52,7 @@ module _ {D : Type 0} where
   abbrev pub fuse_state : (D → DiskState) → FuseView D → DiskState
   fuse_state state disk = record (state disk.inner) { faults = count_of disk.counts; known = λ b. (state disk.inner).known b && has_count disk.counts b }
 
--- a call on the files of a base asks the fuse. Where that blows, it is a fault and not made below, and else it is made there
+-- a call on the files of a base asks the fuse: if it blows, the answer is a fault and the disk below is not called; otherwise it is called
 pub record AsksFuse {D T E : Type 0} (state : D → DiskState) (base : Base) (old new : FuseView D) (result : Result T E) : Type 0 where
   pub fuse : new ≡ record (asked old base) { inner = new.inner; counts = new.counts }
   pub blown : IsTrue (is_blown old base) → IsErr result

@@ -77,7 +77,7 @@ pub trait Disk {
         ensures ok { IsTrue (state self.new).honest → OnOk result ((state self.new).content ≡ map.remove (state self.old).content file) }
         ensures err { IsTrue (state self.new).honest → OnErr result ((state self.new).content ≡ (state self.old).content) };
 
-    /// Makes what was written to a file last. No file is a fault.
+    /// Makes what was written to a file durable. No file is a fault.
     fn sync(&mut self, file: FileName) -> Result<(), Fault>
         requires { IsTrue ((state self.old).known file.base) }
         ensures device { IsCallOn file.base (state self.old) (state self.new) result }

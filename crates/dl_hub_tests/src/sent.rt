@@ -1,4 +1,4 @@
-// A hub can be sent to another thread, over each of the disks, since a lock will keep it.
+// A hub can be sent to another thread, over each of the disks, so that a lock can keep it.
 use dl_disk::{FolderDisk, FuseDisk, MemoryDisk};
 use dl_hub::Hub;
 use std::fs::File;

@@ -1,8 +1,7 @@
--- What a reader has left, and what it lost.
-use Rattle.std.proofs.Common.{◌≡◌, ◌==◌, Bool, true, false, cond, ℕ, List, [], ◌∷◌, ◌++◌, Option, Some, None, refl, sym, ap, ◌∙◌, append_assoc, append-nil, ◌⊎◌, inl, inr}
-use Rattle.std.specs.Prelude.{IfSome}
+-- What a reader has left, and what was taken from it.
+use Rattle.std.proofs.Common.{◌≡◌, ◌==◌, Bool, true, false, cond, ℕ, List, [], ◌∷◌, ◌++◌, Option, Some, None, refl, sym, ap, ◌∙◌, append_assoc, ◌⊎◌, inl, inr}
 use Rattle.std.specs.List.{onto_first}
-use Rattle.std.specs.Io.KnownBytes.{Consumes, IsAtEnd}
+use Rattle.std.specs.Io.KnownBytes.{IsAtEnd}
 use Rattle.dl_lines.specs.declared.lines.NextLine.{NextLine}
 use Rattle.dl_lines.specs.declared.lines.NextLine.TheVariants.{Read, TooLong}
 use Rattle.dl_lines.specs.Lines.{lines_of, HasLines, TakesLines, IsNextTooLong}
@@ -38,12 +37,6 @@ pub has_first : (limit : ℕ) (a b : Option (List ℕ)) (line : List ℕ) (next 
 has_first limit a b line next (inl is) read long = let some = has_next a b line (read is) in (line, some.0, some.1)
 has_first limit a b line next (inr is) read long = let some = long is in (some.0, some.1, some.2)
 
--- a reader that is at its end lost all that it had
-pub takes_all : (a b : Option (List ℕ)) (bytes : List ℕ) → Consumes a b bytes → IsAtEnd b → IfSome a (λ left. left ≡ bytes)
-takes_all None b bytes p end = tt
-takes_all (Some x) None bytes p end = absurd p
-takes_all (Some x) (Some y) bytes p end = p ∙ ap (λ (l : List ℕ). bytes ++ l) end ∙ append-nil bytes
-
 onto_some : (b : ℕ) (lines : List (List ℕ)) → onto_first b lines ≡ [] → ⊥
 onto_some b [] none = cc
 onto_some b (line ∷ lines) none = cc
@@ -52,7 +45,7 @@ some_case : (b : ℕ) (lines : List (List ℕ)) (feed : Bool) → cond feed ([] 
 some_case b lines true none = cc
 some_case b lines false none = onto_some b lines none
 
--- where no line is left nothing is
+-- a reader with no line left has nothing left
 pub none_left : (a : Option (List ℕ)) → HasLines a [] → IsAtEnd a
 none_left None none = tt
 none_left (Some []) none = refl

@@ -6,13 +6,13 @@ use Rattle.std.proofs.lemmas.Bool.{ne_eqb, eqb-true, eqb-false, ltb-false}
 use Rattle.std.proofs.lemmas.List.{take_more}
 use Rattle.std.proofs.lemmas.List.Elements.{All-nil, All-cons, All-head, All-tail, All-append, All-from_get_or}
 use Rattle.std.proofs.lemmas.List.Quantifiers.{position-Some}
-use Rattle.dl_lines.specs.Lines.{lines_of, HasLines, TakesLines, IsNextTooLong}
+use Rattle.dl_lines.specs.Lines.{lines_of, TakesLines, IsNextTooLong}
 
 -- a byte that is no line feed begins the first line
 other_byte : (x : ℕ) (bytes : List ℕ) → x ≢ 10 → lines_of (x ∷ bytes) ≡ onto_first x (lines_of bytes)
 other_byte x bytes ne = ap (λ b. cond b ([] ∷ lines_of bytes) (onto_first x (lines_of bytes))) (ne_eqb x 10 ne)
 
--- what stands in front of the first line feed
+-- what stands before the first line feed is the first line
 pub lines_feed : (line rest : List ℕ) → All (λ b. b ≢ 10) line → lines_of (line ++ 10 ∷ rest) ≡ line ∷ lines_of rest
 lines_feed [] rest plain = refl
 lines_feed (x ∷ line) rest plain =
@@ -59,11 +59,11 @@ none_where : (b : Bool) (n : ℕ) → cond b (Some n) None ≡ None → b ≡ fa
 none_where true n e = let bad : ⊥ = cc in absurd bad
 none_where false n e = refl
 
--- where there is no line feed
+-- a text in which no line feed is found has none
 pub none_plain : (xs : List ℕ) → position (λ b. b == 10) xs ≡ None → All (λ b. b ≢ 10) xs
 none_plain xs e = plain_from xs (ltb-false _ _ (none_where _ (position_or_len (λ b. b == 10) xs) e))
 
--- the first line feed, and what stands in front of it
+-- the first line feed, and what stands before it
 pub at_feed : (xs : List ℕ) (end : ℕ) → position (λ b. b == 10) xs ≡ Some end → (take (end + 1) xs ≡ take end xs ++ 10 ∷ []) × All (λ b. b ≢ 10) (take end xs)
 at_feed xs end e =
     let found = position-Some (λ b. b == 10) xs end 0 e in
@@ -74,7 +74,7 @@ at_feed xs end e =
           subst (λ (b : ℕ). b ≢ 10) (sym (get_or-take end xs k 0 inside)) (eqb-false _ _ (found.2 k inside))),
     )
 
--- ---- what a reader lost, with a part of a line after others
+-- ---- what was taken from a reader, with a part of a line after others
 
 -- a line feed ends the line
 pub takes_feed : (a b c : Option (List ℕ)) (line bytes new : List ℕ) → new ≡ line ++ bytes → Consumes a b line → Consumes b c (bytes ++ 10 ∷ []) → All (λ x. x ≢ 10) line → All (λ x. x ≢ 10) bytes
@@ -97,13 +97,6 @@ takes_last (Some x) (Some y) (Some z) (b ∷ line) new is p end q some plain =
     let whole : x ≡ b ∷ line = p ∙ ap (λ (l : List ℕ). (b ∷ line) ++ l) end ∙ append-nil (b ∷ line) in
     let none : z ≡ [] = sym q ∙ end in
     ap lines_of whole ∙ lines_last b line plain ∙ ap (λ (l : List ℕ). l ∷ []) (sym is) ∙ ap (λ (l : List ℕ). new ∷ lines_of l) (sym none)
-
--- nothing was left
-pub takes_none : (a b : Option (List ℕ)) (line : List ℕ) → Consumes a b line → IsAtEnd b → length line ≡ 0 → HasLines a []
-takes_none None b line p end none = tt
-takes_none (Some x) None line p end none = absurd p
-takes_none (Some x) (Some y) [] p end none = ap lines_of (p ∙ end)
-takes_none (Some x) (Some y) (b ∷ line) p end none = absurd (omega arith)
 
 -- the line has more bytes than the limit
 pub takes_long : (limit : ℕ) (a b : Option (List ℕ)) (line : List ℕ) → Consumes a b line → All (λ x. x ≢ 10) line → limit < length line → IsNextTooLong limit a

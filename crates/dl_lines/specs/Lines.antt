@@ -10,12 +10,12 @@ abbrev pub lines_of : List ℕ → List (List ℕ)
 lines_of [] = []
 lines_of (b ∷ bytes) = if b == 10 then [] ∷ lines_of bytes else onto_first b (lines_of bytes)
 
--- these are the lines of what a reader has left, where its bytes are known
+-- these are the lines of what a reader has left, if its bytes are known
 abbrev pub HasLines : Option (List ℕ) → List (List ℕ) → Type 0
 HasLines None lines = ⊤
 HasLines (Some text) lines = lines_of text ≡ lines
 
--- a reader lost these lines
+-- these lines were taken from a reader
 abbrev pub TakesLines : Option (List ℕ) → Option (List ℕ) → List (List ℕ) → Type 0
 TakesLines None new lines = ⊤
 TakesLines (Some text) None lines = ⊥
@@ -25,7 +25,7 @@ TakesLines (Some text) (Some rest) lines = lines_of text ≡ lines ++ lines_of r
 abbrev pub IsNextTooLong : ℕ → Option (List ℕ) → Type 0
 IsNextTooLong limit known = (line : List ℕ) × (others : List (List ℕ)) × HasLines known (line ∷ others) × (limit < length line)
 
--- what a part of a line takes from a reader, beside its bytes
+-- what a part of a line with these bytes takes from a reader
 abbrev pub TakesPart : Part → Option (List ℕ) → Option (List ℕ) → List ℕ → Type 0
 TakesPart More old new bytes = Consumes old new bytes
 TakesPart Feed old new bytes = Consumes old new (bytes ++ 10 ∷ [])

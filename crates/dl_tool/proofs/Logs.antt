@@ -23,13 +23,13 @@ log_is : (base : Base) (kind : Kind) → log_with base (main_part kind) ≡ Some
 log_is base Halt = refl
 log_is base Wrap = refl
 
--- the file of a log that a file has
+-- the file that gives a log is its main file
 file_is : (base : Base) (p : Part) (log : LogFiles) → log_with base p ≡ Some log → record { base = base; part = p } ≡ main_file log
 file_is base part.Halt log is = let same : record { base = base; kind = Halt } ≡ log = cc in ap main_file same
 file_is base part.Index log is = let same : record { base = base; kind = Wrap } ≡ log = cc in ap main_file same
 file_is base (part.Numbered n) log is = cc
 
--- a file of some gives its log, and a log of some is there by its file
+-- a log that files give has its main file among them, and a main file among them gives its log
 pub by_file : (files : List FileName) (log : LogFiles) → Contains (filter_map log_of files) log → Contains files (main_file log)
 by_file [] log has = absurd (omega (arith, has.1))
 by_file (f ∷ fs) log has = by (by_file fs log) (log_with f.base f.part) refl

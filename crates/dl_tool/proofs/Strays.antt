@@ -1,5 +1,5 @@
 -- The strays of a list of files.
-use Rattle.std.proofs.Common.{◌≡◌, ◌≤◌, ◌<◌, ◌⊎◌, inl, inr, ℕ, List, [], ◌∷◌, ◌++◌, Bool, true, false, cond, Option, Some, Result, Ok, IsTrue, refl, sym, ◌∙◌, ap, subst, length, arith}
+use Rattle.std.proofs.Common.{◌≡◌, ◌⊎◌, inl, inr, ℕ, List, [], ◌∷◌, ◌++◌, Bool, true, false, cond, Option, Some, Result, IsTrue, refl, sym, ◌∙◌, ap, subst, arith}
 use Rattle.std.specs.Prelude.{◌↔◌, not, IsSome}
 use Rattle.std.specs.FinMap as map
 use Rattle.std.specs.List.{Contains}
@@ -9,29 +9,23 @@ use Rattle.dl_types.specs.declared.file.FileName.{FileName}
 use Rattle.dl_types.specs.declared.file.Part.{Part}
 use Rattle.dl_types.specs.declared.file.Part.TheVariants as part
 use Rattle.dl_types.specs.FileName.{Content}
-use Rattle.dl_disk.specs.Disk.{DiskState, IsUncounted, Rises}
-use Rattle.dl_disk.proofs.Acts.{acts_none, acts_later}
+use Rattle.dl_disk.specs.Disk.{DiskState, IsUncounted}
+use Rattle.dl_disk.proofs.Acts.{acts_later}
 use Rattle.dl_index.specs.declared.entry.Entry.{Entry}
 use Rattle.dl_index.specs.declared.entry.Limits.{Limits}
 use Rattle.dl_index.specs.IndexText.{IsIndex}
-use Rattle.dl_index.proofs.Bytes.{length-index_text}
-use Rattle.dl_wrap.specs.Found.{IsNoIndex}
 use Rattle.dl_log.proofs.Stored.{index_once}
 use Rattle.dl_tool.specs.declared.finding.CheckFault.{CheckFault}
 use Rattle.dl_tool.specs.declared.named.Known.{Known}
 use Rattle.dl_tool.specs.declared.named.Named.{Named}
 use Rattle.dl_tool.specs.declared.named.Named.TheVariants as named
-use Rattle.dl_tool.specs.declared.named.TheConstants.{INDEX_LIMIT}
 use Rattle.dl_tool.specs.Named.{index_of, leaves_out, names_number, IsLeftOut, IsNamed, Knows, LeavesOut}
 use Rattle.dl_tool.specs.Reads.{OnlyReads, ReadsLog}
 use Rattle.dl_tool.specs.Stray.{ArePicked, AreStrays}
 use Rattle.dl_tool.proofs.Logs.{one_of, the_one}
+use Rattle.std.proofs.lemmas.Bool.{not-true}
 
 -- ---- what an index names
-
-is_not : (v : Bool) → not v ≡ true → v ≡ false
-is_not true h = sym h
-is_not false h = refl
 
 not_is : (v : Bool) → v ≡ false → not v ≡ true
 not_is true h = sym h
@@ -39,16 +33,12 @@ not_is false h = refl
 
 index_left : (text : List ℕ) (limits : Limits) (entries : List Entry) (n : ℕ) → IsIndex text limits entries → not (names_number n entries) ≡ true ↔ LeavesOut (Some text) n
 index_left text limits entries n is = (
-  (λ h. (limits, entries, is, is_not (names_number n entries) h)),
+  (λ h. (limits, entries, is, not-true (names_number n entries) h)),
   (λ left. let same = (index_once text limits left.0 entries left.1 is left.2).1 in not_is (names_number n entries) (ap (names_number n) same ∙ left.3)),
 )
 
 none_left : (text : List ℕ) (n : ℕ) → ((limits : Limits) (entries : List Entry) → IsIndex text limits entries → ⊥) → false ≡ true ↔ LeavesOut (Some text) n
 none_left text n none = ((λ h. let bad : ⊥ = cc in absurd bad), (λ left. absurd (none left.0 left.1 left.2)))
-
--- a text that is longer than an index is none
-pub long_none : (text : List ℕ) → INDEX_LIMIT < length text → IsNoIndex text
-long_none text long limits entries is = absurd (omega (arith, long, is.set.few, ap length is.written, length-index_text limits entries))
 
 -- by what is known, a number is left out exactly if no file of it is named
 pub left_out : {Z : Type 0} (there : Option (List ℕ)) (k : Named Z) (n : ℕ) → IsNamed there k → leaves_out k n ≡ true ↔ LeavesOut there n
@@ -113,25 +103,10 @@ only_uncounted a b one same = record { later = λ d. omega (arith, one.counts d)
 pub only_log : {T : Type 0} (base : Base) (a b : DiskState) (r : Result T CheckFault) → ReadsLog base a b r → OnlyReads a b
 only_log base a b r reads = record { later = acts_later base a b reads.acts; stayed = reads.acts.stayed; same = reads.same }
 
--- a count that rose in the end rose
-pub rises_over : (a b c : ℕ) → a ≤ b → Rises b c → Rises a c
-rises_over a b c le (inl less) = inl (omega (arith, le, less))
-rises_over a b c le (inr top) = inr top
-
 -- ---- one file
 
--- a file that is no numbered one
-pub not_left : (there : Option (List ℕ)) (p : Part) → ((n : ℕ) → p ≡ part.Numbered n → ⊥) → false ≡ true ↔ IsLeftOut there p
-not_left there part.Halt never = ((λ h. let bad : ⊥ = cc in absurd bad), (λ left. absurd left))
-not_left there part.Index never = ((λ h. let bad : ⊥ = cc in absurd bad), (λ left. absurd left))
-not_left there (part.Numbered n) never = absurd (never n refl)
-
--- one that is, by what is known of the index of its base
+-- a numbered file, by what is known of the index of its base
 pub judged_left : {Z : Type 0} (content : Content) (base : Base) (p : Part) (n : ℕ) (k : Known Z) (b : Bool) → p ≡ part.Numbered n → k.base ≡ base → Knows content k → b ≡ leaves_out k.named n → b ≡ true ↔ IsLeftOut (index_of content base) p
 judged_left content base p n k b is at knows found =
     let one = left_out (index_of content base) k.named n (subst (λ (d : Base). IsNamed (index_of content d) k.named) at knows) in
     subst (λ (q : Part). b ≡ true ↔ IsLeftOut (index_of content base) q) (sym is) (subst (λ (v : Bool). v ≡ true ↔ LeavesOut (index_of content base) n) (sym found) one)
-
--- nothing was read
-pub read_none : {T : Type 0} (base : Base) (a : DiskState) (x : T) → ReadsLog base a a (Ok x)
-read_none base a x = record { acts = acts_none base a; same = λ h. refl; fault = λ f is. cc }

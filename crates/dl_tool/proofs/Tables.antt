@@ -6,7 +6,7 @@ use Rattle.std.proofs.lemmas.List.Sums.{sum_by-append}
 use Rattle.dl_types.specs.Add.{capped}
 use Rattle.dl_tool.specs.declared.finding.Amount.{Amount}
 use Rattle.dl_tool.specs.declared.table.Row.{Row}
-use Rattle.dl_tool.specs.Table.{amount_in, share_of, total_of, total_with, last_text, gap}
+use Rattle.dl_tool.specs.Table.{amount_in, share_of, total_of, total_with, last_text}
 use Rattle.dl_tool.proofs.Readings.{capped_more}
 
 -- a sum, and one more
@@ -26,11 +26,6 @@ total_more rows row =
 pub total_step : (rows : List Row) (i : ℕ) (d : Row) (t new : Amount) → i < length rows → t ≡ total_of (take i rows) → new ≡ total_with t (share_of (amount_in (get_or rows i d).found)) → new ≡ total_of (take (i + 1) rows)
 total_step rows i d t new below so_far is =
     is ∙ ap (λ (a : Amount). total_with a (share_of (amount_in (get_or rows i d).found))) so_far ∙ total_more (take i rows) (get_or rows i d) ∙ ap total_of (sym (take_more rows i d below))
-
--- a last cell that is not empty
-pub last_some : (text : List ℕ) → 0 < length text → last_text text ≡ gap ++ text
-last_some [] some = absurd (omega (arith, some))
-last_some (c ∷ cs) some = refl
 
 pub last_none : (text : List ℕ) → length text ≡ 0 → last_text text ≡ []
 last_none [] none = refl

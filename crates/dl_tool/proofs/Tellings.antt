@@ -1,4 +1,4 @@
--- Logs that were told of, and one more.
+-- Logs that were reported, and one more.
 use Rattle.std.proofs.Common.{◌≡◌, ℕ, List, [], ◌∷◌, ◌++◌, Bool, true, false, Option, IsTrue, refl, sym, ◌∙◌, ap, subst, append_assoc, append-nil}
 use Rattle.std.specs.Prelude.{◌&&◌, ◌||◌}
 use Rattle.std.specs.List.{list_all, list_any}
@@ -44,7 +44,7 @@ tells_more Z style old mid new logs found log x written now after stayed same to
 pub tells_none : (Z : Type 0) (style : Style) (disk : DiskState) (written : Option (List ℕ)) → Tells Z style disk disk [] [] written written
 tells_none Z style disk written = record { finds = λ h. tt; text = []; lines = refl; appends = Appends-nil written }
 
--- a test of all, and of some, of one more
+-- a test of all logs, and one of some, with one log more
 pub all_more : (found : List Finding) (x : Finding) → (list_all is_clean found && is_clean x) ≡ list_all is_clean (found ++ x ∷ [])
 all_more found x = sym (list_all-append is_clean found (x ∷ []) ∙ ap (λ (b : Bool). list_all is_clean found && b) (and_true (is_clean x)))
   where

@@ -1,4 +1,4 @@
--- What is found of a log, a field a line.
+-- What is found of a log, one field on a line.
 use Rattle.std.specs.Prelude.{◌≡◌, ℕ, List, [], ◌∷◌, ◌++◌, Option, Some, None, codes}
 use Rattle.std.specs.Fmt.{decimal}
 use Rattle.dl_types.specs.declared.size.Size.{Size}
@@ -10,7 +10,7 @@ use Rattle.dl_tool.specs.declared.finding.Finding.TheVariants.{Absent, Clean, To
 use Rattle.dl_tool.specs.declared.line.LogFiles.{LogFiles}
 use Rattle.dl_tool.specs.Line.{kind_word, cut_text}
 
--- a line: what is told, and what it is
+-- a line: the name of a field, and its text
 abbrev pub field : List ℕ → List ℕ → List ℕ
 field key text = key ++ codes ": " ++ text ++ 10 ∷ []
 
@@ -40,7 +40,7 @@ keeps_text kept = codes "needs repair: " ++ decimal kept ++ codes " items kept, 
 abbrev pub repair_text : ℕ → ℕ → List ℕ
 repair_text kept cut = keeps_text kept ++ cut_text cut
 
--- lines say what was found, behind the log; which text says a refusal is left open here
+-- the lines of what was found, after those of the log; nothing is said of the text of a refusal
 abbrev pub IsStateText : Finding → List ℕ → Type 0
 IsStateText Absent text = text ≡ state_field (codes "no such log")
 IsStateText (Clean a) text = text ≡ amount_fields a ++ state_field (codes "clean")

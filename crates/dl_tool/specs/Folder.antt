@@ -11,16 +11,16 @@ use Rattle.dl_types.specs.FileName.{Content}
 use Rattle.dl_types.specs.Name.{same_base}
 use Rattle.dl_tool.specs.declared.line.LogFiles.{LogFiles}
 
--- the part of the file by which a log of this kind is there
+-- the part of the main file of a log of this kind: the log is there if this file is
 abbrev pub main_part : Kind → Part
 main_part Halt = part.Halt
 main_part Wrap = part.Index
 
--- the file by which a log is there
+-- the main file of a log
 abbrev pub main_file : LogFiles → FileName
 main_file log = record { base = log.base; part = main_part log.kind }
 
--- the log that is there by a file of this part, if there is one
+-- the log whose main file has this base and this part, if it is a main file
 abbrev pub log_with : Base → Part → Option LogFiles
 log_with base part.Halt = Some (record { base = base; kind = Halt })
 log_with base part.Index = Some (record { base = base; kind = Wrap })
@@ -29,11 +29,11 @@ log_with base (part.Numbered n) = None
 abbrev pub log_of : FileName → Option LogFiles
 log_of f = log_with f.base f.part
 
--- these are the logs whose file is there
+-- these are the logs whose main file is there
 abbrev pub AreLogs : Content → List LogFiles → Type 0
 AreLogs content logs = (log : LogFiles) → Contains logs log ↔ IsSome (map.get content (main_file log))
 
--- the logs of these that have this base, or else a halt log of it
+-- the logs of a base, or a halt log of it if there are none
 abbrev pub or_halt : Base → List LogFiles → List LogFiles
 or_halt base [] = record { base = base; kind = Halt } ∷ []
 or_halt base (log ∷ logs) = log ∷ logs

@@ -39,7 +39,7 @@ json_repair kept cut = codes ",\"kept\":" ++ decimal kept ++ codes ",\"cut\":" +
 abbrev pub json_field : List ℕ → List ℕ → List ℕ
 json_field key text = codes ",\"" ++ key ++ codes "\":\"" ++ text ++ codes "\""
 
--- a text says what was found, behind the log; which text says a refusal is left open here
+-- the fields of what was found, after those of the log; nothing is said of the text of a refusal
 abbrev pub IsJsonText : Finding → List ℕ → Type 0
 IsJsonText Absent text = text ≡ json_state (codes "absent")
 IsJsonText (Clean a) text = text ≡ json_amount (codes "clean") a

@@ -31,7 +31,7 @@ kept_text kept = codes " needs repair: " ++ decimal kept ++ codes " items kept, 
 abbrev pub cut_text : ℕ → List ℕ
 cut_text cut = decimal cut ++ codes " bytes bad"
 
--- a text says what was found; which text says a refusal is left open here
+-- a text says what was found; nothing is said of the text of a refusal
 abbrev pub IsFindingText : Finding → List ℕ → Type 0
 IsFindingText Absent text = text ≡ codes "no such log"
 IsFindingText (Clean a) text = text ≡ amount_text a ++ codes " clean"

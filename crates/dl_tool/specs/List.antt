@@ -1,4 +1,4 @@
--- What a list of the logs of a folder tells.
+-- The list of the logs of a folder.
 use Rattle.std.specs.Prelude.{◌≡◌, ℕ, List, Option, IsTrue, map as mapped}
 use Rattle.std.specs.Io.KnownBytes.{Appends}
 use Rattle.dl_disk.specs.Disk.{DiskState}

@@ -1,4 +1,4 @@
--- What is told of the logs of a folder.
+-- The report on the logs of a folder.
 use Rattle.std.specs.Prelude.{◌≡◌, ℕ, List, [], ◌∷◌, ◌++◌, Bool, true, false, IsTrue, Option}
 use Rattle.std.specs.List.{list_all, list_any}
 use Rattle.std.specs.Io.KnownBytes.{Appends}
@@ -40,11 +40,11 @@ health_by false false = Unclean
 abbrev pub health_of : List Finding → Health
 health_of found = health_by (list_any is_unread found) (list_all is_clean found)
 
--- what was found of a log is so
+-- a finding is right for a log, as the disk reads
 abbrev pub FindsLog : Type 0 → Content → LogFiles → Finding → Type 0
 FindsLog Z content log found = (files : Files) → ReadsAs content log.base log.kind files → IsFinding Z content log.base log.kind files found
 
--- so it is of each of these logs
+-- these findings are right for these logs, one for each
 abbrev pub AreFound : Type 0 → Content → List LogFiles → List Finding → Type 0
 AreFound Z content [] [] = Unit {0}
 AreFound Z content [] (x ∷ xs) = ⊥
@@ -58,7 +58,7 @@ AreLines style [] (x ∷ xs) text = ⊥
 AreLines style (log ∷ logs) [] text = ⊥
 AreLines style (log ∷ logs) (x ∷ xs) text = (first : List ℕ) × (others : List ℕ) × IsTold style log x first × AreLines style logs xs others × (text ≡ first ++ others)
 
--- the logs were found so, on an honest disk, and their lines are written
+-- these findings are right for the logs, on an honest disk, and their lines are written
 pub record Tells (Z : Type 0) (style : Style) (old new : DiskState) (logs : List LogFiles) (found : List Finding) (written after : Option (List ℕ)) : Type 0 where
   pub finds : IsTrue new.honest → AreFound Z old.content logs found
   pub text : List ℕ

@@ -11,7 +11,7 @@ use Rattle.dl_tool.specs.declared.stray.StrayFault.{StrayFault}
 use Rattle.dl_tool.specs.declared.stray.StrayFault.TheVariants as stray
 use Rattle.dl_tool.specs.Named.{index_of, IsLeftOut}
 
--- a numbered file is there, and no index of its base that names it, nor a text in its place that is none
+-- a numbered file is there, and its base has nothing in the place of its index, or an index that does not name the file
 pub record IsStray (content : Content) (f : FileName) : Type 0 where
   pub there : IsSome (map.get content f)
   pub unnamed : IsLeftOut (index_of content f.base) f.part
@@ -20,11 +20,11 @@ pub record IsStray (content : Content) (f : FileName) : Type 0 where
 abbrev pub AreStrays : Content → List FileName → Type 0
 AreStrays content files = (f : FileName) → Contains files f ↔ IsStray content f
 
--- these are all of these names that no index names
+-- these are all numbered files of these names that no index names
 abbrev pub ArePicked : Content → List FileName → List FileName → Type 0
 ArePicked content names files = (f : FileName) → Contains files f ↔ (Contains names f × IsLeftOut (index_of content f.base) f.part)
 
--- the fault that another one is
+-- the fault of a check, or of a list of files, as a fault of the search for strays
 abbrev pub stray_fault : CheckFault → StrayFault
 stray_fault (check.Device file) = stray.Device file
 stray_fault check.OutOfMemory = stray.OutOfMemory

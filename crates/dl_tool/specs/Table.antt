@@ -23,7 +23,7 @@ amount_in (Torn a file kept cut) = Some a
 amount_in (Refused refused) = None
 amount_in (Unread file) = None
 
--- how much it adds to a total
+-- how much a log adds to a total
 abbrev pub share_of : Option Amount → Amount
 share_of None = record { files = 0; items = 0; bytes = 0; bad = 0; stored = None }
 share_of (Some a) = a
@@ -97,14 +97,14 @@ width_of column entries = fold (λ w e. max w (length (cell column e))) 0 entrie
 abbrev pub widths_of : List Entry → Widths
 widths_of entries = record { name = width_of Name entries; kind = width_of Kind entries; files = width_of Files entries; items = width_of Items entries; bytes = width_of Bytes entries }
 
--- a text with blanks before it, or behind it, up to a width
+-- a text with blanks before it, or after it, up to a width
 abbrev pub padded_left : ℕ → List ℕ → List ℕ
 padded_left width text = replicate (width - length text) 32 ++ text
 
 abbrev pub padded_right : ℕ → List ℕ → List ℕ
 padded_right width text = text ++ replicate (width - length text) 32
 
--- what parts two columns
+-- what separates two columns
 abbrev pub gap : List ℕ
 gap = 32 ∷ 32 ∷ []
 
@@ -114,7 +114,7 @@ left_cell column width e = padded_right width (cell column e)
 abbrev pub right_cell : Column → ℕ → Entry → List ℕ
 right_cell column width e = gap ++ padded_left width (cell column e)
 
--- the last column, of which an empty cell leaves no blanks
+-- the last cell of a line, after a gap, or nothing if it is empty
 abbrev pub last_text : List ℕ → List ℕ
 last_text [] = []
 last_text (c ∷ cs) = gap ++ (c ∷ cs)

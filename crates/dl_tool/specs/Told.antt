@@ -1,4 +1,4 @@
--- What is found of a log, as it is told.
+-- What is found of a log, as it is reported.
 use Rattle.std.specs.Prelude.{ℕ, List}
 use Rattle.dl_tool.specs.declared.finding.Finding.{Finding}
 use Rattle.dl_tool.specs.declared.line.LogFiles.{LogFiles}

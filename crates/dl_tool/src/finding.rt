@@ -17,7 +17,7 @@ pub struct Amount {
     pub stored: Option<Size>,
 }
 
-/// What stands of a log that is not open, and what an open to read and write would answer.
+/// What there is of a log that is not open, and what an open to read and write would answer.
 #[derive(Clone, Copy)]
 pub enum Finding {
     /// There is no such log.
@@ -33,7 +33,7 @@ pub enum Finding {
     },
     /// The open is refused.
     Refused(Refusal),
-    /// The device failed at this file, so it is not known.
+    /// The device failed at this file, so nothing is known of the log.
     Unread(FileName),
 }
 

@@ -41,7 +41,7 @@ pub fn sorted_names<D: Disk, A: Allocator + Copy>(
     Ok(names)
 }
 
-/// The logs of these that have this base, or, if there is none, the halt log of it, which a check then finds absent.
+/// Those of the logs that have this base, or, if none has it, a halt log of the base, which a check then finds absent.
 pub fn logs_named<A: Allocator + Copy>(
     alloc: A,
     logs: &[LogFiles],
@@ -64,7 +64,7 @@ pub fn logs_named<A: Allocator + Copy>(
     Ok(own)
 }
 
-// The logs that are there by these files.
+// The logs whose main files are among these files.
 fn logs_of<A: Allocator>(alloc: A, names: &[FileName]) -> Result<Vec<LogFiles, A>, AllocError>
     ensures { IfOk result (λ logs. logs.items ≡ filter_map log_of names.now) }
 {
@@ -77,7 +77,7 @@ fn logs_of<A: Allocator>(alloc: A, names: &[FileName]) -> Result<Vec<LogFiles, A
     Ok(logs)
 }
 
-// The log that is there by this file.
+// The log whose main file this is, if it is one.
 fn log_of(file: FileName) -> Option<LogFiles>
     ensures { result ≡ log_of file }
 {

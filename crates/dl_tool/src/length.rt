@@ -7,7 +7,7 @@ use crate::finding::CheckFault;
 use dl_disk::Disk;
 use dl_types::FileName;
 
-/// The bytes of a file, of which there are none if there is no file.
+/// The length of a file in bytes, 0 if there is no such file.
 pub fn length_of<D: Disk>(disk: &mut D, file: FileName) -> Result<u64, CheckFault>
     requires { IsTrue ((D.state disk.old).known file.base) }
     ensures reads { ReadsLog file.base (D.state disk.old) (D.state disk.new) result }

@@ -1,4 +1,4 @@
-//! What a folder of logs has, read without a change of it.
+//! What a folder of logs has, read without changing it.
 #![tactic(auto)]
 
 mod about;

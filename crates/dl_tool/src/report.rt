@@ -1,4 +1,4 @@
-// The logs of a folder are checked, and told one by one.
+// The logs of a folder are checked and reported one by one.
 ghost use Rattle.std.specs.Prelude.{◌≡◌, ◌&&◌, ◌||◌, List, ℕ, IsTrue, IfOk, OnOk};
 ghost use Rattle.std.specs.Io.KnownBytes.{Appends};
 ghost use Rattle.dl_tool.specs.declared.finding.Finding.{Finding};
@@ -41,7 +41,7 @@ impl From<AllocError> for ReportFault {
     }
 }
 
-/// Checks each of these logs, which are not open, and tells what it finds of each in their order. Nothing is changed.
+/// Checks each of these logs, which are not open, and writes what it finds of each, in their order. Nothing is changed.
 pub fn check_logs<D: Disk, W: Write, A: Allocator + Copy>(
     alloc: A,
     disk: &mut D,
@@ -72,7 +72,7 @@ pub struct Tally {
     pub unread: bool,
 }
 
-// Checks a log and tells what it finds.
+// Checks a log and writes what it finds.
 fn check_next<D: Disk, W: Write, A: Allocator + Copy>(
     alloc: A,
     disk: &mut D,
@@ -109,7 +109,7 @@ pub fn tally_with(tally: Tally, found: Finding) -> Tally
     }
 }
 
-/// How logs stand of which this was found.
+/// How logs stand, by what was found of them.
 pub fn health_by(tally: Tally) -> Health
     ensures { result ≡ health_by tally.unread tally.clean }
 {

@@ -58,8 +58,8 @@ impl From<ListFault> for StrayFault {
 }
 
 /// The numbered files of a folder that the index of their base does not name, or whose base has no index, in order of base
-/// and number. No log has them, and a wrap log that comes to such a number puts a file in its place. If the index of a
-/// base is none by its text, the files of the base are not told. Each index is read once, and nothing is changed.
+/// and number. No log has them, and a wrap log that comes to such a number puts a file in its place. If the text of an
+/// index is no index, the files of its base are left out. Each index is read once, and nothing is changed.
 pub fn find_strays<D: Disk, A: Allocator + Copy>(
     alloc: A,
     disk: &mut D,
@@ -99,7 +99,7 @@ struct Judged<A: Allocator> {
     is_stray: bool,
 }
 
-// Finds whether a file is a numbered one that its index does not name. The index is read, unless this is known of it.
+// Finds whether a file is a numbered one that its index does not name. The index is read, unless it is known already.
 fn judge<D: Disk, A: Allocator + Copy>(
     alloc: A,
     disk: &mut D,

@@ -35,7 +35,7 @@ pub enum Column {
     State,
 }
 
-/// How wide the columns are that another follows.
+/// The widths of all columns but the last one.
 #[derive(Clone, Copy)]
 pub struct Widths {
     pub name: usize,

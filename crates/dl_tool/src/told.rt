@@ -1,4 +1,4 @@
-// What is found of a log, as it is told.
+// What is found of a log, as it is reported.
 ghost use Rattle.std.specs.Prelude.{◌≡◌, ◌++◌, List, ℕ, OnOk};
 ghost use Rattle.dl_tool.specs.Told.{IsTold};
 
@@ -7,7 +7,7 @@ use crate::json::push_json;
 use crate::line::{LogFiles, push_line};
 use std::alloc::{AllocError, Allocator};
 
-/// How what is found is told.
+/// How what is found is reported.
 #[derive(Clone, Copy, Debug, PartialEq, Eq)]
 pub enum Style {
     /// As a line for people.

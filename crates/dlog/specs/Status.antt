@@ -10,14 +10,14 @@ use Rattle.dl_pipe.specs.declared.dump.Gap.{Gap}
 use Rattle.dl_pipe.specs.declared.fault.PipeFault.{PipeFault}
 use Rattle.dl_pipe.specs.declared.fault.PipeFault.TheVariants as fault
 
--- 2 where the script is wrong, and 1 where it could not be run on
+-- 2 if the script is wrong, and 1 if it could not be run on
 abbrev pub status_of : ScriptFault → ℕ
 status_of (BadLine k) = 2
 status_of Read = 1
 status_of Write = 1
 status_of OutOfMemory = 1
 
--- 0 where all of it was run
+-- 0 if all of it was run
 abbrev pub status_after : Result (Unit {0}) ScriptFault → ℕ
 status_after (Ok done) = 0
 status_after (Err fault) = status_of fault
@@ -28,7 +28,7 @@ health_status Clean = 0
 health_status Unclean = 1
 health_status Unread = 3
 
--- the same of one log
+-- the same for one log
 abbrev pub finding_status : Finding → ℕ
 finding_status finding.Absent = 1
 finding_status (finding.Clean amount) = 0
@@ -36,12 +36,12 @@ finding_status (finding.Torn amount file kept cut) = 1
 finding_status (finding.Refused refusal) = 1
 finding_status (finding.Unread file) = 3
 
--- 0 where no bytes are bad
+-- 0 if no bytes are bad
 abbrev pub gaps_status : List Gap → ℕ
 gaps_status [] = 0
 gaps_status (gap ∷ gaps) = 1
 
--- 0 where who reads has ended, and 1 where a log was not written out, or items were not logged, to the end
+-- 0 if the reader of the output has ended, and 1 if a log was not written out, or items were not logged, to the end
 abbrev pub fault_status : PipeFault → ℕ
 fault_status (fault.Refused refusal) = 1
 fault_status fault.Blocked = 1
@@ -54,7 +54,7 @@ fault_status fault.Write = 1
 fault_status fault.ReaderGone = 0
 fault_status fault.OutOfMemory = 1
 
--- 0 where all items were logged
+-- 0 if all items were logged
 abbrev pub append_status : Option PipeFault → ℕ
 append_status None = 0
 append_status (Some stopped) = 1

@@ -15,7 +15,7 @@ pub fn advice_on(fault: PipeFault) -> &'static str {
     }
 }
 
-/// The same of a refusal alone.
+/// The same for a refusal alone.
 pub fn advice_on_refusal(refusal: Refusal) -> &'static str {
     match refusal {
         Refusal::NoFile => "\ndlog list tells which logs the folder has",

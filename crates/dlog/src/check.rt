@@ -1,4 +1,4 @@
-// The commands that tell of the logs of a folder.
+// The commands that report on the logs of a folder.
 ghost use Rattle.std.specs.Prelude.{◌≡◌};
 ghost use Rattle.std.specs.Process.{exit_status};
 ghost use Rattle.dlog.specs.Status.{health_status};
@@ -74,7 +74,7 @@ pub fn list(rt: &HostRuntime, options: &ArgMatches<'_>) -> ExitCode {
     }
 }
 
-// How the words ask to be told.
+// The style of the report that the words ask for.
 fn style_in(options: &ArgMatches<'_>) -> Style {
     if options.get_flag("json") {
         Style::Json
@@ -83,7 +83,7 @@ fn style_in(options: &ArgMatches<'_>) -> Style {
     }
 }
 
-// Checks the logs, or tells why the words do not name any.
+// Checks the logs, or says why the words do not name any.
 fn try_check(
     rt: &HostRuntime,
     options: &ArgMatches<'_>,
@@ -98,7 +98,7 @@ fn try_check(
     Ok(status)
 }
 
-// Tells of the numbered files of a folder that no index names.
+// Reports the numbered files of a folder that no index names.
 fn tell_strays(rt: &HostRuntime, disk: &mut FolderOfLogs, style: Style) -> Result<(), ExitCode> {
     let strays = match find_strays(rt.alloc(), disk) {
         Ok(strays) => strays,
@@ -131,7 +131,7 @@ pub fn check_these(
     Ok(end(rt, checked, is_written))
 }
 
-// Lists the logs, or tells why the words do not name any.
+// Lists the logs, or says why the words do not name any.
 fn try_list(rt: &HostRuntime, options: &ArgMatches<'_>) -> Result<ExitCode, ExitCode> {
     let mut disk = opened(rt, options)?;
     let logs = logs_asked(rt, options, &mut disk)?;
@@ -156,7 +156,7 @@ fn logs_asked(
     }
 }
 
-// The logs of these that have one of these bases.
+// Those of the logs that have one of these bases.
 fn logs_of(
     rt: &HostRuntime,
     found: &[LogFiles],
@@ -178,7 +178,7 @@ fn logs_of(
     Ok(logs)
 }
 
-// Says what became of a report, unless all was told.
+// Returns the status of a report, or says why it was not written to its end.
 fn end(rt: &HostRuntime, told: Result<Health, ReportFault>, is_written: bool) -> ExitCode {
     if !is_written {
         return tell(rt, ReportFault::Write, UNREAD);

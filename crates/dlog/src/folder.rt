@@ -8,7 +8,7 @@ use dl_types::{Base, Kind, Name};
 use std::alloc::{AllocError, Global};
 use std::process::ExitCode;
 
-/// The disk over a folder of logs, which tells how far the work on it is.
+/// The disk over a folder of logs, which reports the progress of the work on it.
 pub type FolderOfLogs = WatchedDisk<FolderDisk<HostRuntime>>;
 
 /// The word for the folder.
@@ -113,8 +113,8 @@ fn kinds_of(rt: &HostRuntime, disk: &mut FolderOfLogs, log: Name) -> Result<Vec<
     }
 }
 
-/// The kind of the log of this name that the folder has, and halt if it has none. If it has one of each kind, `what` is to be
-/// said.
+/// The kind of the log of this name that the folder has, or halt if it has none. If it has one of each kind, the message asks
+/// the user to say `what`.
 pub fn kind_there(
     rt: &HostRuntime,
     disk: &mut FolderOfLogs,

@@ -38,7 +38,7 @@ impl<D: Disk + Drop> Client<'_, D> {
         Ok(reply)
     }
 
-    // Does events and lets them go, and returns how long that took.
+    // Does events and drops them, and returns how long that took.
     fn time(&mut self, events: Vec<Event>) -> Result<Duration, Fault> {
         let start = Instant::now(self.bench.rt)?;
         for event in &events {
@@ -146,7 +146,7 @@ impl Bench<'_> {
     }
 }
 
-// Tests that the items of a chunk say numbers from this one on, and answers the number after them.
+// Tests that the items of a chunk say numbers from this one on, and returns the number after them.
 fn pass(items: &Run, first: u64) -> Result<u64, Fault> {
     let mut number = first;
     for item in items.as_slice() {

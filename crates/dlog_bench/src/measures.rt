@@ -9,7 +9,7 @@ use std::fs::{self, OpenOptions};
 use std::io::{ErrorKind, Write};
 use std::time::Duration;
 
-// The most logs that are written in turn, and how many are at first.
+// The most logs that are written in turn, and how many of them the first of the two measures writes.
 const MOST_LOGS: u64 = 1_000;
 
 const FEW_LOGS: usize = 100;
@@ -124,7 +124,7 @@ fn disk(bench: Bench<'_>) -> Result<FolderDisk<HostRuntime>, Fault> {
     FolderDisk::open(bench.rt.clone()?, bench.folder).map_err(|_| Fault::Folder)
 }
 
-// Opens a log of the folder with a new hub, and then reads it. Answers how long the open took.
+// Opens a log of the folder with a new hub, and then reads it. Returns how long the open took.
 fn reopen(bench: Bench<'_>, log: Name, kind: Kind) -> Result<Duration, Fault> {
     let hub = Hub::new(bench.rt.alloc(), disk(bench)?, bench.blocks)?;
     Client { bench, hub }.time_open(log, kind)

@@ -97,7 +97,7 @@ fn disturbs(step: Step<'_>, own: NamedBase<'_>) -> bool {
 }
 
 /// The steps of a hub with a log's own lines alone: the calls that name it, and the exits of clients that called on it
-/// before, which tell of it alone.
+/// before. Their answers have the log's notices alone.
 pub fn alone<'a>(
     alloc: Global,
     life: &[Step<'a>],
@@ -123,7 +123,7 @@ fn heard_alone<'a>(step: Step<'a>, log: &'a str) -> Step<'a> {
     }
 }
 
-// Whether a step is a log's own, after these steps. What says how a hub begins stays, and commands go.
+// Whether a step is a log's own, after these steps. Steps that say how a hub begins stay, and commands are left out.
 fn is_own(before: &[Step<'_>], step: Step<'_>, log: &str) -> bool {
     let line = match step {
         Step::Line(line) => line,

@@ -67,7 +67,7 @@ pub enum Step<'a> {
     Tool(Tool<'a>),
     /// A line of the command's standard input.
     Input(&'a str),
-    /// A line that the command is to tell.
+    /// A line that the command is to write.
     Told(&'a str),
     /// The device no longer fails, and the next line begins a new script.
     Mend,
@@ -113,7 +113,7 @@ pub fn steps_of(alloc: Global, text: &str) -> Result<Vec<Step<'_>>, CaseFault> {
     }
 }
 
-// Takes a line after what was asked before it. Gives what is asked then.
+// Takes a line after what was asked before it. Returns what is asked then.
 fn take_line<'a>(
     steps: &mut Vec<Step<'a>>,
     number: u64,
@@ -141,7 +141,7 @@ fn take_line<'a>(
     }
 }
 
-// Takes an order after what was asked before it. Gives what is asked then.
+// Takes an order after what was asked before it. Returns what is asked then.
 fn take_order<'a>(
     steps: &mut Vec<Step<'a>>,
     number: u64,
@@ -229,7 +229,7 @@ fn fuse_of(word: &str) -> Option<Fuse> {
     }
 }
 
-// Whether a step comes after a line of its hub and has to stand before.
+// Whether a step comes after a line of its hub, although it has to come before all of them.
 fn is_late(steps: &[Step<'_>], step: Step<'_>) -> bool {
     match step {
         Step::Blocks(_) | Step::Sweep(_) => steps.iter().any(|step| !is_setting(*step)),

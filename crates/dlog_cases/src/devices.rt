@@ -12,7 +12,7 @@ use std::alloc::Global;
 use std::fs;
 use std::path::Path;
 
-/// How a case is run, and what there is to tell of it.
+/// How a case is run, and what there is to report of it.
 #[derive(Drop)]
 pub struct Trial {
     pub blocks: u32,
@@ -69,7 +69,7 @@ fn run_alone(
     Ok(())
 }
 
-// Runs a hub on a copy of these files, and gives the files that it leaves.
+// Runs a hub on a copy of these files, and returns the files that it leaves.
 fn live_in_memory(
     alloc: Global,
     files: &MemoryDisk,
@@ -84,7 +84,7 @@ fn live_in_memory(
 }
 
 // Uses the commands among the steps of a hub on the files that it leaves, the first over a device that fails as the steps say.
-// Gives the files that they leave.
+// Returns the files that they leave.
 fn use_in_memory(
     alloc: Global,
     files: MemoryDisk,
@@ -104,7 +104,7 @@ fn use_in_memory(
     Ok(files)
 }
 
-// Uses a command, after which these steps stand.
+// Uses a command that is followed by these steps.
 fn use_one_in_memory(
     alloc: Global,
     disk: FuseDisk<MemoryDisk>,
@@ -157,7 +157,7 @@ pub fn fused(alloc: Global, files: MemoryDisk, failure: Option<Failure>) -> Fuse
     FuseDisk::new(alloc, files, base, calls, fuse)
 }
 
-// Runs the scripts of a hub, before each but the first of which its device is mended. Gives the files that it leaves.
+// Runs the scripts of a hub, and mends its device before each but the first. Returns the files that it leaves.
 fn run_scripts(
     alloc: Global,
     hub: &mut Hub<FuseDisk<MemoryDisk>>,

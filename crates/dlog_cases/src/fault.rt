@@ -91,7 +91,7 @@ pub enum How {
     Folder,
     /// One of its logs alone, in memory.
     Alone(Option<Name>),
-    /// In memory, with a device that fails after so many calls on the files of a base.
+    /// In memory, with a device that fails after `calls` calls on the files of a base.
     Failing { base: Base, calls: u64, fuse: Fuse },
 }
 
@@ -117,7 +117,7 @@ impl fmt::Display for How {
     }
 }
 
-// How many calls fail once a fuse blows, in the words of a case.
+// How many calls fail after a fuse has blown, in the words of a case.
 fn count_of(fuse: Fuse) -> &'static str {
     match fuse {
         Fuse::One => "one",

@@ -43,7 +43,7 @@ fn tell(rt: &HostRuntime, stop: Stop) -> ExitCode {
     }
 }
 
-// Takes the one word after the name of the program.
+// Reads the one word after the name of the program.
 fn run(rt: &HostRuntime) -> Result<bool, Stop> {
     let mut words = env::args(rt).map_err(|_| Stop::Misused)?.skip(1);
     match (words.next(), words.next()) {
@@ -52,7 +52,7 @@ fn run(rt: &HostRuntime) -> Result<bool, Stop> {
     }
 }
 
-// Does what a word asks for, and says whether no case failed.
+// Does what a word asks for, and returns whether no case failed.
 fn run_word(rt: &HostRuntime, word: &str) -> Result<bool, Stop> {
     let mut tally = Tally::default();
     match word {

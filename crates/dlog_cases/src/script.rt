@@ -10,8 +10,8 @@ use std::alloc::{AllocError, Global};
 // How many bytes of an answer are shown if it differs.
 const SHOWN_BYTES: usize = 200;
 
-/// Runs the lines among these steps on a hub, as one script, and finds the first that answers otherwise. What was wanted and
-/// what came is added to `told`.
+/// Runs the lines among these steps on a hub, as one script, and finds the first with another answer than the wanted one. What was
+/// wanted and what came is added to `told`.
 ///
 /// A bad line ends a script, so the lines after it are run as another one.
 pub fn run_lines<D: Disk + Drop>(
@@ -43,7 +43,7 @@ pub fn lines_of<'a>(alloc: Global, steps: &[Step<'a>]) -> Result<Vec<Line<'a>>, 
         .collect(alloc)
 }
 
-// Runs lines up to the first bad one, and says how many have an answer, which is the wanted one.
+// Runs lines up to the first bad one, and returns how many have an answer, each of which is the wanted one.
 fn run_some<D: Disk + Drop>(
     alloc: Global,
     hub: &mut Hub<D>,
@@ -84,7 +84,7 @@ pub fn script_of(alloc: Global, lines: &[Line<'_>]) -> Result<String, AllocError
     Ok(text)
 }
 
-// Compares answers with those that are wanted, and says how many there are.
+// Compares answers with those that are wanted, and returns how many there are.
 fn compare(
     alloc: Global,
     lines: &[Line<'_>],

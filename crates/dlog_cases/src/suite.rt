@@ -54,7 +54,7 @@ fn case_names(rt: &HostRuntime, folder: &str) -> io::Result<Vec<String>> {
     Ok(names)
 }
 
-// Runs the case of a file, and tells what became of it.
+// Runs the case of a file, and prints what became of it.
 fn run_file(
     rt: &HostRuntime,
     folder: &str,
@@ -112,7 +112,7 @@ fn tell(
     }
 }
 
-// Runs a case, and says how many answers it has.
+// Runs a case, and returns how many answers it has.
 fn run_case(
     rt: &HostRuntime,
     text: &str,

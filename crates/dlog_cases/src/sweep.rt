@@ -38,7 +38,7 @@ fn run_sweep(
     sweep_fuses(&course, trial)
 }
 
-// What is swept: the lines on the files that the steps lay down, and what they come to with no fault.
+// What is swept: the lines on the files that the steps lay down, with what they answer and leave if no call fails.
 fn course_of<'a>(
     alloc: Global,
     steps: &[Step<'a>],
@@ -105,7 +105,7 @@ fn may_be_swept(step: Step<'_>, log: &str) -> bool {
     }
 }
 
-// Lets one call fail, and then all from one on.
+// Sweeps with a device at which one call fails, and then with one at which all calls from one on fail.
 fn sweep_fuses(course: &Course<'_>, trial: &mut Trial) -> Result<(), CaseFault> {
     for fuse in [Fuse::One, Fuse::All] {
         if sweep_calls(course, fuse, trial)? == 0 {
@@ -115,7 +115,7 @@ fn sweep_fuses(course: &Course<'_>, trial: &mut Trial) -> Result<(), CaseFault> 
     Ok(())
 }
 
-// Lets the device fail after no call, after one and so on, until no call is left to fail. Says after how many that is.
+// Lets the device fail after no call, after one and so on, until no call is left to fail. Returns after how many that is.
 fn sweep_calls(course: &Course<'_>, fuse: Fuse, trial: &mut Trial) -> Result<u64, CaseFault> {
     for calls in 0..CALLS_LIMIT {
         let failure = Failure {
@@ -135,7 +135,7 @@ fn sweep_calls(course: &Course<'_>, fuse: Fuse, trial: &mut Trial) -> Result<u64
     Err(CaseFault::NoEnd(course.sweep.number))
 }
 
-// Runs all lines with a device that fails so, and judges what comes of it. Says whether a call failed.
+// Runs all lines with a device that fails so, and judges what comes of it. Returns whether a call failed.
 fn try_failure(
     course: &Course<'_>,
     failure: Failure,

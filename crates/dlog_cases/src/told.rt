@@ -1,4 +1,4 @@
-// What a command is given, and what it is to tell.
+// The input of a command, and the output that is wanted.
 use crate::case::{Step, Tool};
 use crate::fault::CaseFault;
 use crate::script::tell;
@@ -16,7 +16,7 @@ pub fn input_of(alloc: Global, after: &[Step<'_>]) -> Result<String, AllocError>
     Ok(text)
 }
 
-/// Compares what a command told with the lines that are wanted.
+/// Compares what a command wrote with the lines that are wanted.
 pub fn compare_told(
     alloc: Global,
     tool: Tool<'_>,
@@ -33,7 +33,7 @@ pub fn compare_told(
     Err(CaseFault::Differs(tool.number))
 }
 
-// The lines that a command is to tell.
+// The lines that a command is to write.
 fn wanted_of(alloc: Global, after: &[Step<'_>]) -> Result<String, AllocError> {
     let mut text = String::new(alloc);
     for step in own(after) {

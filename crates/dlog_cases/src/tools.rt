@@ -14,7 +14,7 @@ use dl_types::{Base, Item, Kind, Name, Size};
 use std::alloc::Global;
 use std::io::Write;
 
-/// Does what a command does on a disk, and gives the hub over it.
+/// Does what a command does on a disk, and returns the hub over it.
 pub fn use_tool<D: Disk + Drop>(
     alloc: Global,
     mut disk: D,
@@ -31,7 +31,7 @@ pub fn use_tool<D: Disk + Drop>(
     Ok(hub)
 }
 
-// Tells of a disk if the command does that, and gives the log if it works on one.
+// Reports on a disk if the command does that, or returns the log that the command works on.
 fn tell_of<D: Disk>(
     alloc: Global,
     disk: &mut D,
@@ -59,7 +59,7 @@ fn tell_of<D: Disk>(
     }
 }
 
-// Tells of the files that belong to no log, as a check does.
+// Reports the files that belong to no log, as a check does.
 fn tell_strays<D: Disk>(
     alloc: Global,
     disk: &mut D,
@@ -75,7 +75,7 @@ fn tell_strays<D: Disk>(
     Ok(())
 }
 
-// How a check is to tell.
+// The style of the report of a check.
 fn style_of(others: &str) -> Style {
     if others == "--json" {
         Style::Json
@@ -146,7 +146,7 @@ fn append_of(alloc: Global, kind: Kind, others: &str) -> Result<AppendArgs, Case
     })
 }
 
-// What the words say that is written of a log of this kind.
+// Which items of a log of this kind the words ask for, and how they are written.
 fn dump_of(kind: Kind, others: &str) -> Result<DumpArgs, CaseFault> {
     let from = match value_of(others, " --from ") {
         Some(text) => Some(spot_of(text)?),
@@ -169,7 +169,7 @@ fn dump_of(kind: Kind, others: &str) -> Result<DumpArgs, CaseFault> {
     })
 }
 
-// The word after an option, if that is there.
+// The word after an option, if the option is there.
 fn value_of<'t>(others: &'t str, option: &str) -> Option<&'t str> {
     let (_, behind) = others.split_once(option)?;
     Some(behind.split(' ').next().unwrap_or(behind))
@@ -206,7 +206,7 @@ fn size_of(others: &str) -> Result<Option<Size>, CaseFault> {
     Ok(Some(Size::Wrap { bytes, files }))
 }
 
-// Tells what an append came to.
+// Writes what an append came to.
 fn tell_append(done: Result<Appended, PipeFault>, output: &mut Vec<u8>) -> Result<(), CaseFault> {
     let appended = match done {
         Ok(appended) => appended,
@@ -223,7 +223,7 @@ fn tell_append(done: Result<Appended, PipeFault>, output: &mut Vec<u8>) -> Resul
     }
 }
 
-// Tells what a dump came to, after its items.
+// Writes what a dump came to, after its items.
 fn tell_dump(done: Result<Vec<Gap>, PipeFault>, output: &mut Vec<u8>) -> Result<(), CaseFault> {
     let gaps = match done {
         Ok(gaps) => gaps,
@@ -236,7 +236,7 @@ fn tell_dump(done: Result<Vec<Gap>, PipeFault>, output: &mut Vec<u8>) -> Result<
     Ok(())
 }
 
-// Tells what a repair came to.
+// Writes what a repair came to.
 fn tell_repair(
     done: Result<Option<Cut>, PipeFault>,
     output: &mut Vec<u8>,

@@ -77,7 +77,7 @@ impl<R: Files<File = File> + AllocGlobal + Clone + Drop> Folder<R> {
         answer
     }
 
-    // Opens the file of this name, unless it is kept open for that.
+    // Opens the file of this name, unless it is kept open for this access.
     fn keep_open(&mut self, name: FileName, access: Access) -> io::Result<()>
         ensures ok { OnOk result (IsKept self.new.kept.files.entries name) }
         ensures err { OnErr result (IsClosed self.new.kept.files.entries name) }
@@ -97,7 +97,7 @@ impl<R: Files<File = File> + AllocGlobal + Clone + Drop> Folder<R> {
         })
     }
 
-    // Makes the names of the folder last.
+    // Makes the names of the folder durable.
     fn sync_names(&self) -> io::Result<()> {
         self.own.sync_all()
     }
@@ -138,7 +138,7 @@ impl<R: Files<File = File> + AllocGlobal + Clone + Drop> Folder<R> {
         self.kept.write_at(file, at, bytes)
     }
 
-    /// Puts a whole file in the place of what was there. A stop leaves the one or the other.
+    /// Puts a whole file in the place of what was there. A stop leaves either the old file or the new one.
     pub(crate) fn put(&mut self, file: FileName, bytes: &[u8]) -> io::Result<()>
         ensures { IsClosed self.new.kept.files.entries file }
     {
@@ -197,7 +197,7 @@ impl<R: Files<File = File> + AllocGlobal + Clone + Drop> Folder<R> {
         self.sync_names()
     }
 
-    /// Makes what was written to a file last.
+    /// Makes what was written to a file durable.
     pub(crate) fn sync(&mut self, file: FileName) -> io::Result<()>
         ensures { OnErr result (IsClosed self.new.kept.files.entries file) }
     {
@@ -232,7 +232,7 @@ fn is_crowded<T>(answer: &io::Result<T>) -> bool {
     }
 }
 
-// Writes the bytes of a new file, and makes them last.
+// Writes the bytes of a new file, and makes them durable.
 fn write_whole(mut file: File, bytes: &[u8]) -> io::Result<()> {
     file.write_all(bytes)?;
     file.sync_all()

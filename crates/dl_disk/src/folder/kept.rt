@@ -30,7 +30,7 @@ impl Kept {
         })
     }
 
-    /// Whether a file of this name is kept, and open for that. It is then the most recently used one.
+    /// Whether a file of this name is kept, and open for this access. It is then the most recently used one.
     pub(crate) fn serves(&mut self, name: FileName, access: Access) -> bool
         ensures { IsTrue result → IsKept self.new.files.entries name }
     {
@@ -132,7 +132,7 @@ impl Kept {
         self.close_after(name, answer)
     }
 
-    /// Makes what was written to a kept file last. A fault closes it.
+    /// Makes what was written to a kept file durable. A fault closes it.
     pub(crate) fn sync(&mut self, name: FileName) -> io::Result<()>
         ensures { OnErr result (IsClosed self.new.files.entries name) }
     {

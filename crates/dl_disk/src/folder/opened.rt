@@ -37,7 +37,7 @@ pub(crate) struct Opened {
 }
 
 impl Opened {
-    /// Whether this is the file of that name, and open for that.
+    /// Whether this is the file of this name, and open for this access.
     pub(crate) fn serves(&self, name: FileName, access: Access) -> bool
         ensures named { IsTrue result → self.now.name ≡ name }
         ensures open { IsTrue result → (self.now.access ≡ Access.Change) ⊎ (access ≡ Access.Read) }

@@ -34,7 +34,7 @@ fn open_now(alloc: Global, disk: Failing, base: Base) -> Result<Rig<Failing>, Fa
     }
 }
 
-// Opens the log. If that fails the device is mended, if it fails for good, and the log is opened again.
+// Opens the log. If that fails, a device that fails for good is mended, and the log is opened again.
 fn open(alloc: Global, disk: Failing, base: Base, fuse: Fuse) -> Result<Rig<Failing>, Fail> {
     match Rig::open(alloc, disk, base, ASKED)? {
         Begun::Open(rig, _) => Ok(rig),
@@ -60,7 +60,7 @@ fn add_all(alloc: Global, rig: &mut Rig<Failing>, kept: &mut Vec<Filled>) -> Res
     Ok(())
 }
 
-// Adds items, empties the log and adds items again. The items that the log is to have.
+// Adds items, empties the log and adds items again. Returns the items that the log is to have.
 fn live(alloc: Global, rig: &mut Rig<Failing>) -> Result<Vec<Filled>, Fail> {
     let mut kept = Vec::new(alloc);
     kept.push(HEAD)?;
@@ -78,12 +78,12 @@ fn has(alloc: Global, rig: &mut Rig<Failing>, items: &[Filled]) -> bool {
     rig.has(alloc, items) || rig.has(alloc, items)
 }
 
-// Closes a log, at the second attempt if the first fails. Whether it had these items.
+// Closes a log, at the second attempt if the first fails. Returns whether it had these items and was closed.
 fn ends(alloc: Global, rig: &mut Rig<Failing>, items: &[Filled]) -> bool {
     has(alloc, rig, items) && (rig.close() || rig.close())
 }
 
-// The life of a log until it is closed, over a device that is mended if it fails for good. Its items, if it had them.
+// Runs a log until it is closed, over a device that is mended if it fails for good. Returns its items, if it had them.
 fn ends_well(alloc: Global, rig: &mut Rig<Failing>, fuse: Fuse) -> Result<Vec<Filled>, Fail> {
     let items = live(alloc, rig)?;
     if fuse == Fuse::All {
@@ -103,7 +103,7 @@ fn passed_with(alloc: Global, rig: &mut Rig<Failing>, items: &[Filled]) -> Resul
     Ok(rig.disk().passed())
 }
 
-// Opens a log again. How many calls there were, if it has these items.
+// Opens a log again. Returns how many calls there were, if it has these items.
 fn has_again(
     alloc: Global,
     disk: Failing,
@@ -115,7 +115,7 @@ fn has_again(
     passed_with(alloc, &mut rig, items.as_slice())
 }
 
-// Runs a log over a device that fails at a call. How many calls there were, if it has its items at the end and again.
+// Runs a log over a device that fails at a call. Returns how many calls there were, if it has its items at the end and again.
 fn survives(alloc: Global, calls: u64, fuse: Fuse) -> Result<u64, Fail> {
     let base = Base::parse(b"h").ok_or("base")?;
     let disk = FuseDisk::new(alloc, MemoryDisk::new(alloc), None, calls, fuse);
@@ -124,7 +124,7 @@ fn survives(alloc: Global, calls: u64, fuse: Fuse) -> Result<u64, Fail> {
     has_again(alloc, rig.into_disk(), base, fuse, items)
 }
 
-// Lets each call of a log's life fail in turn. How many calls a life has.
+// Lets each call of a log's life fail in turn. Returns how many calls a life has.
 fn survives_all(alloc: Global, fuse: Fuse) -> Result<u64, Fail> {
     let all = survives(alloc, u64::MAX, fuse)?;
     for calls in 0..all {

@@ -60,7 +60,7 @@ fn open(
     }
 }
 
-// Adds items of copies of a byte in turn. Whether as many were added as the rows say, and the log is then full or not.
+// Adds items of copies of a byte in turn. Returns whether as many were added, and the log is full after each, as the rows say.
 fn adds(
     alloc: Global,
     rig: &mut Rig<MemoryDisk>,
@@ -90,7 +90,7 @@ fn fills(alloc: Global, rig: &mut Rig<MemoryDisk>) -> Result<bool, Fail> {
     Ok(first && larger && second && smaller && third && items)
 }
 
-// The same of a log that is begun.
+// The same for a log that is begun.
 fn fills_a_new_log(alloc: Global) -> Result<bool, Fail> {
     let (mut rig, _) = open(alloc, MemoryDisk::new(alloc), Asked::limited(50))?;
     fills(alloc, &mut rig)
@@ -107,7 +107,7 @@ fn is_text(disk: &MemoryDisk, text: &[u8]) -> Result<bool, Fail> {
     Ok(disk.get(file()?) == Some(text))
 }
 
-// Closes the log of a repaired file. Whether it has the items and then the bytes that it is to have.
+// Closes the log of a repaired file. Returns whether it had the items, and its file has the bytes, that a repair is to leave.
 fn is_repaired(
     alloc: Global,
     rig: &mut Rig<MemoryDisk>,
@@ -191,7 +191,7 @@ fn heads(alloc: Global, rig: &mut Rig<MemoryDisk>, head: Filled) -> Result<bool,
     Ok(first && own && another && rig.generation() == 3)
 }
 
-// The same of a log that is begun.
+// The same for a log that is begun.
 fn heads_of_a_new_log(alloc: Global) -> Result<bool, Fail> {
     let head = filled(b'H', 1);
     let asked = Asked {

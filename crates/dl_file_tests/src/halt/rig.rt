@@ -1,4 +1,4 @@
-// The file of one halt log that tests call, and owe nothing for it.
+// The file of one halt log, with calls that have no preconditions.
 ghost use Rattle.std.specs.Prelude.{IsTrue, IfOk};
 ghost use Rattle.dl_file.specs.File.{IsReady};
 
@@ -52,7 +52,7 @@ impl Asked {
     }
 }
 
-/// A log that was opened, and the items kept and bytes cut by a repair, or why it was not opened. Then the disk is given back.
+/// A log that was opened, and the items kept and bytes cut by a repair, or why it was not opened, with the disk.
 #[derive(Drop)]
 pub enum Begun<D: Disk + Drop> {
     Open(Rig<D>, Option<(u64, u64)>),
@@ -97,7 +97,7 @@ impl<D: Disk + Drop> Rig<D> {
         }
     }
 
-    /// Adds items. How many were added, if the device did not fail.
+    /// Adds items. Returns how many were added, if the device did not fail.
     pub fn add(&mut self, alloc: Global, items: &[Filled]) -> Result<Option<usize>, Fail> {
         let mut made = Vec::new(alloc);
         for filled in items {
@@ -123,7 +123,7 @@ impl<D: Disk + Drop> Rig<D> {
         )
     }
 
-    /// Gives the log another limit. The size of the file in bytes, if that is larger.
+    /// Gives the log another limit, or returns the size of the file in bytes if that is larger.
     pub fn change_size(&mut self, limit: u64) -> Result<(), u64> {
         self.files.change_size(Size::Limit(limit.min(100_000)))
     }
@@ -138,14 +138,14 @@ impl<D: Disk + Drop> Rig<D> {
         self.files.generation()
     }
 
-    /// Writes all that waits. Whether that was done.
+    /// Writes all that waits, and returns whether that was done.
     pub fn drain(&mut self) -> bool {
         self.files
             .drain_all(&mut self.disk, &mut self.cache)
             .is_ok()
     }
 
-    /// Writes all that waits and marks the file as whole. Whether both were done.
+    /// Writes all that waits and marks the file as whole. Returns whether both were done.
     pub fn close(&mut self) -> bool {
         self.files.close(&mut self.disk, &mut self.cache).is_ok()
     }
@@ -176,7 +176,7 @@ impl<D: Disk + Drop> Rig<D> {
         &self.disk
     }
 
-    /// Lets the file and what waits go, as a program does that ends.
+    /// Drops the file and what waits, as a program does that ends.
     pub fn into_disk(self) -> D {
         let Rig { disk, .. } = self;
         disk

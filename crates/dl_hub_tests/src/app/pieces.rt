@@ -2,7 +2,7 @@
 use std::io;
 use std::io::{BufRead, Read, Write};
 
-// Gives its text in pieces of one byte, and then fails, if it is told to, or ends. If it is told to be interrupted, it is so
+// Gives its text in pieces of one byte, and then fails, if it has a fault, or ends. If it is to be interrupted, that comes
 // before each piece.
 #[derive(Drop)]
 pub struct Pieces<'a> {

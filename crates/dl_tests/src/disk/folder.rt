@@ -44,7 +44,7 @@ fn agree<D: Disk + Drop, E: Disk + Drop>(
     Ok(halt && index)
 }
 
-// Makes all calls on two disks by turns, and finds the first one after which they say other things.
+// Makes all calls on two disks by turns, and finds the first one after which they differ.
 fn first_apart<D: Disk + Drop, E: Disk + Drop>(
     one: &mut Rig<D>,
     other: &mut Rig<E>,
@@ -58,8 +58,8 @@ fn first_apart<D: Disk + Drop, E: Disk + Drop>(
     Ok(None)
 }
 
-// Makes all calls on a folder and on a disk in memory, and finds the first one after which they say other things, or that
-// they count other faults.
+// Makes all calls on a folder and on a disk in memory, and finds the first one after which they differ, or the number of calls
+// if they count other faults.
 fn first_unlike_memory(
     rig: &mut Rig<FolderDisk<HostRuntime>>,
     alloc: Global,
@@ -72,7 +72,7 @@ fn first_unlike_memory(
     Ok(apart)
 }
 
-// The same of a folder of a test.
+// The same in a folder of a test.
 fn first_unlike_call(place: &Place) -> Result<Option<usize>, Fail> {
     let mut rig = place.disk()?;
     first_unlike_memory(&mut rig, place.rt.alloc())
@@ -95,7 +95,7 @@ fn lists_both(rig: &mut Rig<FolderDisk<HostRuntime>>, alloc: Global) -> Result<b
     Ok(names.as_slice() == files.as_slice())
 }
 
-// The same of a folder of a test.
+// The same in a folder of a test.
 fn lists_both_in(place: &Place) -> Result<bool, Fail> {
     let mut rig = place.disk()?;
     lists_both(&mut rig, place.rt.alloc())
@@ -121,7 +121,7 @@ const ON_A_FOLDER: [Row<'static>; 6] = [
     (Part::Halt, Call::Rename(Part::Index), false),
 ];
 
-// Makes these calls, and finds the first one that ends otherwise, or that not each of them was a fault.
+// Makes these calls, and finds the first one that ends otherwise, or their number if not each of them was counted as a fault.
 fn first_uncounted(rig: &mut Rig<FolderDisk<HostRuntime>>) -> Result<Option<usize>, AllocError> {
     let wrong = rig.first_wrong(&ON_A_FOLDER)?;
     if rig.disk.fault_count(rig.base) != Some(ON_A_FOLDER.len() as u64) {
@@ -130,7 +130,7 @@ fn first_uncounted(rig: &mut Rig<FolderDisk<HostRuntime>>) -> Result<Option<usiz
     Ok(wrong)
 }
 
-// The same of a folder of a test, in which the halt log's file is a folder.
+// The same in a folder of a test, in which the halt log's file is a folder.
 fn first_uncounted_in(place: &Place) -> Result<Option<usize>, Fail> {
     fs::create_dir(&place.rt, place.at("queue.log")?)?;
     let mut rig = place.disk()?;
@@ -152,7 +152,7 @@ fn is_no_folder(rt: &HostRuntime, path: &str) -> Result<bool, Fail> {
     Ok(matches!(disk, Err(OpenFault::Device)))
 }
 
-// The same of an entry of a test's folder.
+// The same for an entry of a test's folder.
 fn is_no_folder_at(place: &Place, name: &str) -> Result<bool, Fail> {
     let path = place.at(name)?;
     is_no_folder(&place.rt, path.as_str())
@@ -175,7 +175,7 @@ fn is_in_use(place: &Place) -> Result<bool, Fail> {
     Ok(matches!(disk, Err(OpenFault::InUse)))
 }
 
-// Whether the folder is refused while a disk over it is open, which goes on.
+// Whether the folder is refused while a disk over it is open, and that disk goes on.
 fn is_refused_meanwhile(place: &Place) -> Result<bool, Fail> {
     let mut first = place.disk()?;
     let refused = is_in_use(place)?;
@@ -195,7 +195,7 @@ fn a_folder_has_one_disk_at_a_time(rt: HostRuntime) -> Result<(), Fail> {
 // More files than are kept open at a time.
 const MANY: u32 = 140;
 
-// Makes a call on many files by turns, and finds the first one of which the two disks say other things.
+// Makes a call on many files by turns, and finds the first one at which the two disks differ.
 fn first_unlike<D: Disk + Drop, E: Disk + Drop>(
     one: &mut Rig<D>,
     other: &mut Rig<E>,
@@ -231,7 +231,7 @@ fn first_of_many<D: Disk + Drop, E: Disk + Drop>(
     Ok(None)
 }
 
-// The same of a folder and a disk in memory.
+// The same for a folder and a disk in memory.
 fn first_beside_memory(
     rig: &mut Rig<FolderDisk<HostRuntime>>,
     alloc: Global,
@@ -240,7 +240,7 @@ fn first_beside_memory(
     Ok(first_of_many(rig, &mut model)?)
 }
 
-// The same of a folder of a test.
+// The same in a folder of a test.
 fn first_of_many_in(place: &Place) -> Result<Option<u32>, Fail> {
     let mut rig = place.disk()?;
     first_beside_memory(&mut rig, place.rt.alloc())

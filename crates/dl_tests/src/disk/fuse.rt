@@ -44,13 +44,13 @@ const KINDS: [Row<'static>; 9] = [
     (Part::Halt, Call::Sync, false),
 ];
 
-// Makes each kind of call. Whether all but the first failed, were counted and changed nothing.
+// Makes each kind of call. Returns whether all but the first failed, were counted and changed nothing.
 fn blows(rig: &mut Rig<FuseDisk<MemoryDisk>>) -> Result<bool, Fail> {
     let is_right = rig.first_wrong(&KINDS)?.is_none();
     Ok(is_right && rig.holds(Part::Halt, TEXT) && rig.counted() == (9, Some(8)))
 }
 
-// The same of a fuse that one call passes.
+// The same with a fuse that lets one call pass.
 fn blows_after_a_call(alloc: Global) -> Result<bool, Fail> {
     let mut rig = fused(alloc, None, 1, Fuse::All)?;
     blows(&mut rig)

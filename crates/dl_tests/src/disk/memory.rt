@@ -6,7 +6,7 @@ use linked_list_allocator::LocalHeap;
 use std::alloc::Global;
 use std::test::Fail;
 
-// Writes and puts more than there is memory for. Whether both are counted faults, and the file stays.
+// Writes and puts more than there is memory for. Returns whether both are counted as faults, and the file stays.
 fn keeps_text(rig: &mut Rig<MemoryDisk<&LocalHeap>>, much: &[u8]) -> Result<bool, Fail> {
     let rows = [
         (Part::Halt, Call::Write(6, much), false),
@@ -16,7 +16,7 @@ fn keeps_text(rig: &mut Rig<MemoryDisk<&LocalHeap>>, much: &[u8]) -> Result<bool
     Ok(is_right && rig.faults() == Some(2) && rig.has(Part::Halt, TEXT))
 }
 
-// The same of a disk over a heap.
+// The same on a disk over a heap.
 fn keeps_text_in(heap: &LocalHeap) -> Result<bool, Fail> {
     let mut rig = Rig::with_text(heap)?;
     keeps_text(&mut rig, &[7; 8192])
@@ -29,12 +29,12 @@ fn a_growth_that_is_refused_is_a_fault_and_the_file_stays(rt: HostRuntime) -> Re
     Ok(())
 }
 
-// Whether the names of the files want more memory than a heap has.
+// Whether the names of the files need more memory than a heap has.
 fn want_more(disk: &mut MemoryDisk, heap: &LocalHeap) -> bool {
     matches!(disk.list(heap), Err(ListFault::OutOfMemory))
 }
 
-// The same of the names of a disk with a file.
+// The same for the names of a disk with a file.
 fn want_more_than(alloc: Global, heap: &LocalHeap) -> Result<bool, Fail> {
     let mut rig = Rig::with_text(alloc)?;
     Ok(want_more(&mut rig.disk, heap))
@@ -47,7 +47,7 @@ fn names_that_have_no_room_are_out_of_memory(rt: HostRuntime) -> Result<(), Fail
     Ok(())
 }
 
-// Whether a disk has seen no longer read than of four bytes once its file was read.
+// Whether a disk knows its longest read: none, and of four bytes after its file was read.
 fn knows_the_longest(rig: &mut Rig<MemoryDisk>) -> Result<bool, Fail> {
     let before = rig.disk.longest();
     rig.look(Part::Halt, 3)?;
@@ -56,7 +56,7 @@ fn knows_the_longest(rig: &mut Rig<MemoryDisk>) -> Result<bool, Fail> {
     Ok(before == 0 && rig.disk.longest() == 4 && rig.disk.copy()?.longest() == 4)
 }
 
-// The same of a disk with a file.
+// The same on a disk with a file.
 fn knows_the_longest_read(alloc: Global) -> Result<bool, Fail> {
     let mut rig = Rig::with_text(alloc)?;
     knows_the_longest(&mut rig)

@@ -1,4 +1,4 @@
-// An index of which no call owes anything.
+// An index whose calls have no preconditions.
 ghost use Rattle.std.specs.Prelude.{◌↔◌, IsTrue};
 ghost use Rattle.dl_index.specs.Entries.{IsEntry};
 
@@ -6,7 +6,7 @@ use dl_index::{Agreement, Entry, Found, Index, Limits};
 use dl_types::{Base, FILE_LIMIT, FILES_LIMIT, Fail, GENERATION_LIMIT, Refusal};
 use std::alloc::{AllocError, Allocator, Global};
 
-/// An index. A change that it may not take is answered by `false`.
+/// An index. The answer to a change that is not allowed is `false`.
 #[derive(Drop)]
 pub(crate) struct Rig<A: Allocator = Global> {
     index: Index<A>,
@@ -28,7 +28,7 @@ impl<A: Allocator + Copy> Rig<A> {
 }
 
 impl<A: Allocator> Rig<A> {
-    /// Takes room for `changes` changes.
+    /// Reserves memory for `changes` changes.
     pub(crate) fn reserve(&mut self, changes: usize) -> Result<(), AllocError> {
         self.index.reserve(changes)
     }
@@ -95,7 +95,7 @@ impl<A: Allocator> Rig<A> {
         self.index.image()
     }
 
-    /// What is answered for what was found of the files, if that is one for each.
+    /// What a check answers, if there is something found for each file.
     pub(crate) fn check(&self, base: Base, found: &[Found]) -> Option<Result<Agreement, Refusal>> {
         if found.len() != self.index.entries().len() {
             return None;

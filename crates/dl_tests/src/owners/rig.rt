@@ -1,4 +1,4 @@
-// A table of owners of which no call owes or promises anything.
+// A table of owners whose calls have no preconditions and promise nothing.
 use dl_owners::{Closed, Owners};
 use dl_types::{ClientId, Fail, Link, Name};
 use std::alloc::{AllocError, Allocator, Global};
@@ -8,13 +8,13 @@ use std::alloc::{AllocError, Allocator, Global};
 pub(crate) enum Call {
     /// A client becomes an owner, with this notify value.
     Own(u32, bool),
-    /// There is one user more.
+    /// There is one anonymous use more.
     Use,
     /// What an open gives a client.
     Open(u32, Link),
     Close(u32),
     Leave(u32),
-    /// A client blocks the log, and calls of others wait or not.
+    /// A client blocks the log, and calls of others wait, or are refused.
     Block(u32, bool),
     Unblock,
 }
@@ -46,7 +46,7 @@ impl<A: Allocator + Copy> Rig<A> {
         }
     }
 
-    /// Makes a call: what a close or a leave answers.
+    /// Makes a call, and returns what a close or a leave answers.
     pub(crate) fn call(&mut self, log: Name, call: Call) -> Result<Option<Closed>, Fail> {
         match call {
             Call::Own(client, notify) => self.own(client, log, notify)?,
@@ -60,7 +60,7 @@ impl<A: Allocator + Copy> Rig<A> {
         Ok(None)
     }
 
-    /// Takes all ownerships and blocks of a client, and returns the logs where it had one.
+    /// Ends all ownerships and blocks of a client, and returns the logs where it had one.
     pub(crate) fn exit(&mut self, client: u32) -> Result<Vec<Name, A>, AllocError> {
         self.owners.exit(ClientId(client))
     }

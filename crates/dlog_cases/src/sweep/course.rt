@@ -17,20 +17,20 @@ pub struct Texts<'a> {
     pub probe: String,
     /// The probe, and a line that syncs the log.
     pub synced: String,
-    /// The probe, and a line in which client 1 closes it.
+    /// The probe, and a line in which client 1 closes the log.
     pub closed: String,
     /// The first line, and the same open with no size.
     pub opens: String,
 }
 
-/// What a run with a fault ends with once its device is mended.
+/// What a run with a fault ends with after its device is mended.
 #[derive(Clone, Copy, PartialEq, Eq)]
 pub enum End {
     Sync,
     Close,
 }
 
-/// A line, what it answers, and what its log has then.
+/// A line, its answer, and what its log has after it.
 #[derive(Drop)]
 pub struct Record<'a> {
     pub line: Line<'a>,
@@ -82,8 +82,8 @@ impl Course<'_> {
         }
     }
 
-    /// Whether what a sync or a close writes after a line need not be in the files of the log's base: up to it the log was moved, or is
-    /// read alone.
+    /// Whether what a sync or a close writes after a line need not be in the files of the log's base: the log was moved by a line up to
+    /// this one, or is read alone.
     pub fn is_elsewhere(&self, at: usize) -> bool {
         self.lines_to(at).iter().any(|line| {
             verb_of(line.text) == Some("reopen")
@@ -142,7 +142,7 @@ pub fn records_of<'a>(
     read_records(alloc, texts, run.first.as_str(), told)
 }
 
-// The lines, each with a probe behind it.
+// The lines, each with a probe after it.
 fn probed_of(alloc: Global, texts: &Texts<'_>) -> Result<String, AllocError> {
     let mut text = String::new(alloc);
     for line in &texts.lines {
@@ -172,7 +172,7 @@ fn read_records<'a>(
     Ok(records)
 }
 
-// Reads what a line and the probe behind it answered.
+// Reads what a line and the probe after it answered.
 fn read_record<'a>(
     alloc: Global,
     line: Line<'a>,

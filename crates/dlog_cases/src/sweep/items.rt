@@ -1,4 +1,4 @@
-// What a log has as the answers of a probe tell it, and what a fault may leave of it.
+// What a log has by the answers of a probe, and what a fault may leave of it.
 use crate::answer::expanded;
 use crate::fault::CaseFault;
 use std::alloc::{AllocError, Global};
@@ -7,10 +7,10 @@ use std::fmt::Write;
 /// How many answers a probe has. A log is read through if it has one file fewer, of at most 65,536 bytes each.
 pub const PROBE_ANSWERS: usize = 6;
 
-/// What a probe of a log that is not open tells.
+/// The answer to a probe of a log that is not open.
 pub const NO_LOG: &str = "E2 no_such_log";
 
-/// What an open of a log answers that needs no repair.
+/// The answer to an open of a log that needs no repair.
 pub const OPENED: &str = "opened";
 
 /// The client of a probe, who has no part in the log.
@@ -54,7 +54,7 @@ pub fn seen_in(alloc: Global, answers: &[&str]) -> Result<String, CaseFault> {
     Err(CaseFault::Unread)
 }
 
-// What a probe that was refused tells.
+// What a probe that was refused found: the refusal.
 fn refused(alloc: Global, answer: &str) -> Result<String, CaseFault> {
     Ok(String::from_str(alloc, answer)?)
 }
@@ -78,8 +78,8 @@ fn may_end(line: &str) -> bool {
     matches!(verb_of(line), Some("open" | "close" | "exit" | "reopen"))
 }
 
-/// Whether a log may have this after a line that answered a fault, by what it had before the line and has after it without a fault: all
-/// of the one or of the other, or what a call that adds items one by one had come to.
+/// Whether a log may have this after a line whose answer is a fault: what it had before the line, what it has after the line without a
+/// fault, or what a call that adds items one by one had left when it stopped.
 pub fn is_left(
     alloc: Global,
     line: &str,
@@ -101,7 +101,7 @@ pub fn is_left(
     is_midway(alloc, before, all.as_str(), lost_in(answer), has)
 }
 
-// The items of a log, and behind them those that a line sends.
+// The items of a log, and after them those that a line sends.
 fn with_sent(alloc: Global, before: &str, line: &str) -> Result<String, AllocError> {
     let mut text = String::from_str(alloc, before)?;
     for word in line.split(' ').skip(3) {
@@ -121,7 +121,7 @@ fn push_item(alloc: Global, text: &mut String, word: &str) -> Result<(), AllocEr
     text.push_str(digits.as_str())
 }
 
-// How many items the files had that went, by the notices of an answer.
+// How many items were lost with files that were replaced, by the notices of an answer.
 fn lost_in(answer: &str) -> usize {
     let mut lost = 0usize;
     for notice in answer.split(" | ").skip(1) {
@@ -130,13 +130,13 @@ fn lost_in(answer: &str) -> usize {
     lost
 }
 
-// How many items went by this notice, if it tells that.
+// How many items were lost by this notice, if it says that.
 fn lost_by(notice: &str) -> Option<usize> {
     let (_, count) = notice.split_once(" wrap ")?;
     count.parse::<usize>().ok()
 }
 
-// Whether items are some of the first of all, without as many as were lost, and with the last of those before.
+// Whether a log has what a call left that stopped midway: all items but the `lost` first ones, up to some item after those before.
 fn is_midway(
     alloc: Global,
     before: &str,

@@ -11,10 +11,10 @@ use crate::script::{script_of, tell};
 use dl_disk::MemoryDisk;
 use dl_types::FileName;
 
-// What an open answers where files that an index names are missing.
+// The answer to an open if files that an index names are missing.
 const PARTED: &str = "E11 invalid_index_file";
 
-// The first line that answers otherwise, and its answer.
+// The first line with another answer than without a fault, and that answer.
 #[derive(Clone, Copy)]
 struct Other<'a> {
     at: usize,
@@ -22,7 +22,7 @@ struct Other<'a> {
     answer: &'a str,
 }
 
-/// Judges a run of all lines. Says whether a call failed.
+/// Judges a run of all lines. Returns whether a call failed.
 pub fn judge(
     course: &Course<'_>,
     failure: Failure,
@@ -40,7 +40,7 @@ pub fn judge(
     Ok(true)
 }
 
-// The first line that answers otherwise, if one does.
+// The first line with another answer than without a fault, if there is one.
 fn first_other<'a>(records: &'a [Record<'a>], answers: &'a str) -> Option<Other<'a>> {
     records
         .iter()
@@ -50,7 +50,7 @@ fn first_other<'a>(records: &'a [Record<'a>], answers: &'a str) -> Option<Other<
         .find(|other| other.record.answer.as_str() != other.answer)
 }
 
-// Judges the first line that answers otherwise: its answer, and what its log has then, which a sync and a close keep.
+// Judges the first line with another answer: that answer, and what its log has then, which a sync and a close keep.
 fn judge_line(
     course: &Course<'_>,
     failure: Failure,
@@ -63,7 +63,7 @@ fn judge_line(
     try_lines(course, failure, other, script.as_str(), End::Close, told)
 }
 
-// Judges an answer that is not the wanted one: it tells of the fault, or of a repair after one that was told to nobody.
+// Judges an answer that is not the wanted one: it reports the fault, or a repair after a fault that no answer reported.
 fn judge_answer(
     course: &Course<'_>,
     other: &Other<'_>,
@@ -81,7 +81,7 @@ fn judge_answer(
     Err(CaseFault::Differs(other.record.line.number))
 }
 
-// Whether an answer tells of a fault at the base of a sweep, or of a turn that failed.
+// Whether an answer reports a fault at the base of a sweep, or a turn that failed.
 fn is_fault(course: &Course<'_>, answer: &str) -> bool {
     let answer = answer.split(" | ").next().unwrap_or(answer);
     if let Some(log) = answer.strip_prefix("turn fault ") {
@@ -93,7 +93,7 @@ fn is_fault(course: &Course<'_>, answer: &str) -> bool {
         .is_some_and(|file| file.base == course.sweep.base)
 }
 
-// Runs the lines up to one with a device that fails so, mends it and ends by a sync or a close. Judges what the log has.
+// Runs the lines up to one with a device that fails so, mends the device and ends with a sync or a close. Judges what the log has.
 fn try_lines(
     course: &Course<'_>,
     failure: Failure,

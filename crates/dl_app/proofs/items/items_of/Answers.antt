@@ -9,7 +9,7 @@ use Rattle.dl_app.specs.Items.{is_too_long, refusal_of}
 use Rattle.dl_app.specs.Words.{words_left}
 use Rattle.dl_app.proofs.items.items_of.Goals as goal
 
--- what a failure is, its error is
+-- an error with this failure is a refusal if the failure is one
 told : (A : Type 0) (o : Option Refusal) (fail : Fail) → IfSome o (λ r. fail ≡ Refused r) → IfSome o (λ r. ◌≡◌ {A = Result A Fail} (Err fail) (Err (Refused r)))
 told A None fail is = tt
 told A (Some r) fail is = ap Err is

@@ -1,4 +1,4 @@
--- The items so far, and those of the words that are left, are all, and none of the words so far is too long.
+-- The items so far, and those of the words that are left, are those of all words, and none of the words so far is too long.
 use Rattle.std.proofs.Common.{◌≡◌, ◌≤◌, ◌++◌, map, length}
 use Rattle.std.specs.List.{list_any}
 use Rattle.dl_app.specs.Words.{words_left}

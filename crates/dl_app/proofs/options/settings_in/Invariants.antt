@@ -1,4 +1,4 @@
--- Where the options that are left are read on from the settings so far, all are read from none; and where all can be read, those that are left can.
+-- If the options that are left are read on from the settings so far, all options are read from no settings; and if all can be read, so can those that are left.
 use Rattle.dl_app.specs.declared.options.Settings.{Settings}
 use Rattle.dl_app.specs.Words.{words_left}
 use Rattle.dl_app.specs.Settings.{no_settings}

@@ -1,4 +1,4 @@
--- Where the words that are left write items, all do.
+-- If the words that are left all write items, all words do.
 use Rattle.std.proofs.Common.{◌≡◌}
 use Rattle.std.specs.List.{list_all}
 use Rattle.dl_app.specs.Words.{words_left}

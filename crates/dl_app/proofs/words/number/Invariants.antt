@@ -1,4 +1,4 @@
--- What was read so far are digits, of this number.
+-- The bytes that were read so far are digits, and write this number.
 use Rattle.std.proofs.Common.{◌≡◌, ◌<◌, ◌^◌, true, take}
 use Rattle.std.specs.List.{list_all}
 use Rattle.std.specs.Char.{is_ascii_digit}

@@ -4,7 +4,7 @@ use Rattle.dl_tool.specs.declared.finding.Finding.{Finding}
 use Rattle.dl_tool.specs.Report.{is_clean, is_unread, Tells}
 use Rattle.dl_tool.proofs.report.check_logs.Given as goal
 
--- the logs so far were told
+-- the logs so far were reported
 abbrev pub invariant-loop-log : goal.invariant-loop-log
 invariant-loop-log g l = record {
   same : IsTrue (g.D.Disk.state l.disk).honest → (g.D.Disk.state l.disk).content ≡ (g.D.Disk.state l.fn.disk).content;

@@ -3,7 +3,8 @@ use Rattle.std.proofs.lemmas.Result.{IfOk-weaker}
 use Rattle.dl_types.specs.FileName.{Content}
 use Rattle.dl_types.specs.declared.file.FileName.{FileName}
 use Rattle.dl_tool.specs.Stray.{ArePicked}
-use Rattle.dl_tool.proofs.Strays.{only_then, only_uncounted, rises_over, strays_are}
+use Rattle.dl_tool.proofs.Strays.{only_then, only_uncounted, strays_are}
+use Rattle.dl_disk.proofs.Acts.{rises_since}
 use Rattle.dl_tool.proofs.stray.find_strays.Goals as goal
 
 pub returns-clause-reads : goal.returns-clause-reads
@@ -19,7 +20,7 @@ returns-clause-device g c f is =
     let old = state c.args.disk.now in
     let mid = state c.sorted_names.new.disk in
     let first = only_uncounted old mid c.in_ok-names.ensures.device c.in_ok-names.ensures.content in
-    rises_over (old.faults f.base) (mid.faults f.base) ((state c.strays_in.new.disk).faults f.base) (first.later f.base) (c.strays_in.ensures.device f is)
+    rises_since (old.faults f.base) (mid.faults f.base) ((state c.strays_in.new.disk).faults f.base) (first.later f.base) (c.strays_in.ensures.device f is)
 
 pub returns-clause-strays : goal.returns-clause-strays
 returns-clause-strays g c honest =

@@ -2,6 +2,6 @@ use Rattle.std.proofs.Common.{◌≡◌, take}
 use Rattle.dl_tool.specs.Table.{total_of}
 use Rattle.dl_tool.proofs.table.total_of.Given as goal
 
--- the logs so far have so much together
+-- how much the logs so far have together
 abbrev pub invariant-loop-row : goal.invariant-loop-row
 invariant-loop-row l = l.total ≡ total_of (take l.row-index l.rows)

@@ -10,7 +10,7 @@ use Rattle.dl_app.specs.Script.{IsLine, IsStepped}
 use Rattle.dl_app.specs.Session.{stage_of}
 use Rattle.dl_app.proofs.script.Session.run_line.Goals as goal
 
--- what holds on success, in other words
+-- what holds on success, and what follows from it
 on_ok : {A E : Type 0} (r : Result A E) (P Q : Type 0) → (P → Q) → OnOk r P → OnOk r Q
 on_ok (Ok x) P Q f p = f p
 on_ok (Err e) P Q f p = tt
