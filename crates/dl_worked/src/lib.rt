@@ -1,0 +1,12 @@
+//! Worked scripts of one log: what is asked line for line, and the answers, which the definitions of `dl_types` give by
+//! computation.
+#![tactic(auto)]
+
+pub mod blocks;
+pub mod calls;
+pub mod halt;
+pub mod heads;
+pub mod sent;
+pub mod sets;
+pub mod texts;
+pub mod wrap;
