@@ -90,10 +90,20 @@ fn try_check(
     style: Style,
 ) -> Result<ExitCode, ExitCode> {
     let mut disk = opened(rt, options)?;
-    let logs = logs_asked(rt, options, &mut disk)?;
-    let status = check_these(rt, &mut disk, &logs, style)?;
+    check_folder(rt, options, &mut disk, style)
+}
+
+// Checks the logs of a folder that the words name, and finds the files that no index names if they name none.
+fn check_folder(
+    rt: &HostRuntime,
+    options: &ArgMatches<'_>,
+    disk: &mut FolderOfLogs,
+    style: Style,
+) -> Result<ExitCode, ExitCode> {
+    let logs = logs_asked(rt, options, disk)?;
+    let status = check_these(rt, disk, &logs, style)?;
     if options.get_strs("names").is_none() {
-        tell_strays(rt, &mut disk, style)?;
+        tell_strays(rt, disk, style)?;
     }
     Ok(status)
 }
@@ -134,11 +144,20 @@ pub fn check_these(
 // Lists the logs, or says why the words do not name any.
 fn try_list(rt: &HostRuntime, options: &ArgMatches<'_>) -> Result<ExitCode, ExitCode> {
     let mut disk = opened(rt, options)?;
-    let logs = logs_asked(rt, options, &mut disk)?;
+    list_folder(rt, options, &mut disk)
+}
+
+// Lists the logs of a folder that the words name.
+fn list_folder(
+    rt: &HostRuntime,
+    options: &ArgMatches<'_>,
+    disk: &mut FolderOfLogs,
+) -> Result<ExitCode, ExitCode> {
+    let logs = logs_asked(rt, options, disk)?;
     let Ok(mut output) = BufWriter::with_capacity(rt.alloc(), BUFFER_BYTES, io::writer(rt)) else {
         return Err(tell(rt, ReportFault::OutOfMemory, UNREAD));
     };
-    let listed = list_logs(rt.alloc(), &mut disk, &logs, &mut output);
+    let listed = list_logs(rt.alloc(), disk, &logs, &mut output);
     let is_written = output.flush().is_ok();
     Ok(end(rt, listed, is_written))
 }

@@ -86,6 +86,32 @@ fn show(rt: &HostRuntime, error: &Error) -> ExitCode {
 
 // The command line.
 fn command<'a>(alloc: Global) -> Result<Command<'a>, AllocError> {
+    let command = Command::new(alloc, "dlog")
+        .version("0.1.0")
+        .about("A server of logs that keep their items in order and give them back in chunks")
+        .subcommand_required(true)
+        .subcommand(run_words(alloc)?)?;
+    with_work(alloc, with_reports(alloc, command)?)
+}
+
+// The command line with the commands that report on logs.
+fn with_reports<'a>(alloc: Global, command: Command<'a>) -> Result<Command<'a>, AllocError> {
+    command
+        .subcommand(check::check_command(alloc)?)?
+        .subcommand(check::list_command(alloc)?)?
+        .subcommand(info::command(alloc)?)
+}
+
+// The command line with the commands that work on a log.
+fn with_work<'a>(alloc: Global, command: Command<'a>) -> Result<Command<'a>, AllocError> {
+    command
+        .subcommand(repair::command(alloc)?)?
+        .subcommand(dump::command(alloc)?)?
+        .subcommand(append::command(alloc)?)
+}
+
+// The words of the command that runs a script.
+fn run_words<'a>(alloc: Global) -> Result<Command<'a>, AllocError> {
     let folder = Arg::new(alloc, "folder")
         .long("folder")
         .value_name("DIR")
@@ -98,21 +124,10 @@ fn command<'a>(alloc: Global) -> Result<Command<'a>, AllocError> {
         .value_parser(value_parser!(u32).range(1..=65_536))
         .default_value("16")
         .help("Let items wait in N blocks of 4096 bytes before they are written, from 1 to 65536");
-    let run = Command::new(alloc, "run")
+    Command::new(alloc, "run")
         .about("Run a script from standard input and print its answers")
         .arg(folder)?
-        .arg(blocks)?;
-    Command::new(alloc, "dlog")
-        .version("0.1.0")
-        .about("A server of logs that keep their items in order and give them back in chunks")
-        .subcommand_required(true)
-        .subcommand(run)?
-        .subcommand(check::check_command(alloc)?)?
-        .subcommand(check::list_command(alloc)?)?
-        .subcommand(info::command(alloc)?)?
-        .subcommand(repair::command(alloc)?)?
-        .subcommand(dump::command(alloc)?)?
-        .subcommand(append::command(alloc)?)
+        .arg(blocks)
 }
 
 // Runs the script on standard input over the disk that the options name.
@@ -139,17 +154,21 @@ fn open_folder(rt: &HostRuntime, path: &str) -> Result<FolderDisk<HostRuntime>, 
 
 // Runs the script on standard input over a disk.
 fn run_over<D: Disk + Drop>(rt: &HostRuntime, disk: D, blocks: u32) -> ExitCode {
+    match Hub::new(rt.alloc(), disk, blocks) {
+        Ok(mut hub) => run_on(rt, &mut hub),
+        Err(fail) => tell(rt, fail, FAILED),
+    }
+}
+
+// Runs the script on standard input on a hub.
+fn run_on<D: Disk + Drop>(rt: &HostRuntime, hub: &mut Hub<D>) -> ExitCode {
     let alloc = rt.alloc();
-    let mut hub = match Hub::new(alloc, disk, blocks) {
-        Ok(hub) => hub,
-        Err(fail) => return tell(rt, fail, FAILED),
-    };
     let input = BufReader::with_capacity(alloc, BUFFER_BYTES, rt.reader());
     let output = BufWriter::with_capacity(alloc, BUFFER_BYTES, io::writer(rt));
     let (Ok(mut input), Ok(mut output)) = (input, output) else {
         return tell(rt, ScriptFault::OutOfMemory, FAILED);
     };
-    let done = run_script(alloc, &mut input, &mut output, &mut hub);
+    let done = run_script(alloc, &mut input, &mut output, hub);
     end(rt, done)
 }
 

@@ -4,13 +4,16 @@
 mod alone;
 mod answer;
 mod case;
-mod devices;
 mod fault;
+mod folder;
+mod job;
+mod memory;
 mod script;
 mod suite;
 mod sweep;
 mod told;
 mod tools;
+mod trial;
 
 use fault::Stop;
 use std::env;

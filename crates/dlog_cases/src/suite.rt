@@ -1,8 +1,10 @@
 // All cases of a folder, one after another.
 use crate::case::{Step, blocks_of, count_answers, has_failure, steps_of};
-use crate::devices::{Trial, run_in_folder, run_in_memory};
 use crate::fault::{CaseFault, How};
+use crate::folder::run_in_folder;
+use crate::memory::run_in_memory;
 use crate::sweep::run_sweeps;
+use crate::trial::Trial;
 use std::path::{Path, PathBuf};
 use std::{env, fs, io, process};
 

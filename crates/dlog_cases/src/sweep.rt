@@ -9,8 +9,9 @@ use self::items::verb_of;
 use self::judge::judge;
 use crate::alone::{Deed, deed_of};
 use crate::case::{Failure, Line, Step, Sweep};
-use crate::devices::{Trial, lay_in_memory};
 use crate::fault::{CaseFault, How};
+use crate::memory::lay_in_memory;
+use crate::trial::Trial;
 use dl_disk::{Fuse, MemoryDisk};
 use std::alloc::Global;
 

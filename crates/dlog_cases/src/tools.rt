@@ -14,25 +14,8 @@ use dl_types::{Base, Item, Kind, Name, Size};
 use std::alloc::Global;
 use std::io::Write;
 
-/// Does what a command does on a disk, and returns the hub over it.
-pub fn use_tool<D: Disk + Drop>(
-    alloc: Global,
-    mut disk: D,
-    blocks: u32,
-    tool: Tool<'_>,
-    input: &str,
-    output: &mut Vec<u8>,
-) -> Result<Hub<D>, CaseFault> {
-    let log = tell_of(alloc, &mut disk, tool, output)?;
-    let mut hub = Hub::new(alloc, disk, blocks).map_err(CaseFault::Hub)?;
-    if let Some(log) = log {
-        work_on(alloc, &mut hub, log, tool, input, output)?;
-    }
-    Ok(hub)
-}
-
-// Reports on a disk if the command does that, or returns the log that the command works on.
-fn tell_of<D: Disk>(
+/// Reports on a disk if the command does that, or returns the log that the command works on.
+pub fn tell_of<D: Disk>(
     alloc: Global,
     disk: &mut D,
     tool: Tool<'_>,
@@ -96,8 +79,8 @@ fn log_of(alloc: Global, found: &[LogFiles], others: &str) -> Result<LogFiles, C
     Ok(log)
 }
 
-// Does what a command does with a log.
-fn work_on<D: Disk + Drop>(
+/// Does what a command does with a log.
+pub fn work_on<D: Disk + Drop>(
     alloc: Global,
     hub: &mut Hub<D>,
     log: LogFiles,

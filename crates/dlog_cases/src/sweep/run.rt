@@ -1,10 +1,9 @@
 // A hub on which the lines of a sweep are run.
 use crate::case::Failure;
-use crate::devices::fused;
 use crate::fault::CaseFault;
+use crate::memory::{MemoryHub, hub_over};
 use dl_app::run_script;
-use dl_disk::{FuseDisk, MemoryDisk};
-use dl_hub::Hub;
+use dl_disk::MemoryDisk;
 use std::alloc::Global;
 
 /// What a hub answered to two scripts, and what it left.
@@ -26,25 +25,14 @@ pub fn run_hub(
     first: &str,
     second: &str,
 ) -> Result<Run, CaseFault> {
-    let mut hub = hub_over(alloc, blocks, files, failure)?;
+    let mut hub = hub_over(alloc, files.copy()?, failure, blocks)?;
     run_both(alloc, &mut hub, first, second)
-}
-
-// A hub over a copy of these files whose device fails so.
-fn hub_over(
-    alloc: Global,
-    blocks: u32,
-    files: &MemoryDisk,
-    failure: Option<Failure>,
-) -> Result<Hub<FuseDisk<MemoryDisk>>, CaseFault> {
-    let disk = fused(alloc, files.copy()?, failure);
-    Hub::new(alloc, disk, blocks).map_err(CaseFault::Hub)
 }
 
 // Runs two scripts on a hub, whose device is mended before the second.
 fn run_both(
     alloc: Global,
-    hub: &mut Hub<FuseDisk<MemoryDisk>>,
+    hub: &mut MemoryHub,
     first: &str,
     second: &str,
 ) -> Result<Run, CaseFault> {
@@ -62,11 +50,7 @@ fn run_both(
 }
 
 // What a script answers on a hub.
-fn answers_to(
-    alloc: Global,
-    hub: &mut Hub<FuseDisk<MemoryDisk>>,
-    script: &str,
-) -> Result<String, CaseFault> {
+fn answers_to(alloc: Global, hub: &mut MemoryHub, script: &str) -> Result<String, CaseFault> {
     let mut input = script.as_bytes();
     let mut output = Vec::new(alloc);
     run_script(alloc, &mut input, &mut output, hub).map_err(CaseFault::Script)?;
