@@ -1,5 +1,5 @@
 -- What the calls of a disk do to its files and to its counts of faults.
-use Rattle.std.specs.Prelude.{⊤, ◌≡◌, ◌≢◌, ℕ, ◌+◌, ◌<◌, ◌≤◌, ◌^◌, ◌⊎◌, List, [], ◌++◌, Bool, IsTrue, take, drop, length, slice_index_or, unwrap_or, Option, Some, None, Result, IsErr}
+use Rattle.std.specs.Prelude.{⊤, ◌≡◌, ◌≢◌, ℕ, ◌+◌, ◌<◌, ◌≤◌, ◌^◌, ◌⊎◌, List, [], ◌++◌, Bool, IsTrue, take, drop, length, slice_index_or, unwrap_or, Option, Some, None, Result, IsOk, IsErr}
 use Rattle.std.specs.FinMap as map
 use Rattle.dl_types.specs.declared.name.Base.{Base}
 use Rattle.dl_types.specs.declared.file.FileName.{FileName}
@@ -22,10 +22,11 @@ pub record IsQuiet (old new : ℕ) : Type 0 where
   pub same : new ≡ old
   pub seen : new + 1 < 2 ^ 64
 
--- one call on a file of this base: a fault is counted under this base, and nothing under another
+-- one call on a file of this base: a fault is counted under this base, a success under none, and nothing under another base
 pub record Counts {T E : Type 0} (base : Base) (old new : Base → ℕ) (result : Result T E) : Type 0 where
   pub later : old base ≤ new base
   pub fault : IsErr result → Rises (old base) (new base)
+  pub calm : IsOk result → new base ≡ old base
   pub others : (b : Base) → b ≢ base → new b ≡ old b
 
 -- what each call on files of one base leaves, whatever it answers

@@ -1,5 +1,5 @@
 // The calls of the system on the files of one folder.
-ghost use Rattle.std.specs.Prelude.{◌≡◌, ◌≤◌, ◌+◌, ℕ, [], max, length, Ok, Some, IfSome, IfOk, OnOk, OnErr};
+ghost use Rattle.std.specs.Prelude.{◌≡◌, ◌≤◌, ◌+◌, ℕ, [], false, max, length, Ok, Some, IfSome, IfOk, OnOk, OnErr};
 ghost use Rattle.std.specs.Path.{path_buf_bytes, path_join};
 ghost use Rattle.dl_types.specs.declared.file.FileName.{FileName};
 ghost use Rattle.dl_types.specs.Printed.{printed_file};
@@ -27,6 +27,8 @@ pub(crate) struct Folder<R: Files<File = File> + AllocGlobal + Clone + Drop> {
     // The folder itself, open and locked.
     own: File,
     kept: Kept,
+    // Whether names may have changed since they were last durable.
+    owes_names: bool,
 }
 
 impl<R: Files<File = File> + AllocGlobal + Clone + Drop> Folder<R> {
@@ -46,6 +48,7 @@ impl<R: Files<File = File> + AllocGlobal + Clone + Drop> Folder<R> {
             path,
             own,
             kept,
+            owes_names: true,
         })
     }
 
@@ -97,9 +100,24 @@ impl<R: Files<File = File> + AllocGlobal + Clone + Drop> Folder<R> {
         })
     }
 
-    // Makes the names of the folder durable.
-    fn sync_names(&self) -> io::Result<()> {
-        self.own.sync_all()
+    // Makes the names of the folder durable, unless they are.
+    fn sync_names(&mut self) -> io::Result<()>
+        ensures durable { OnOk result (self.new.owes_names ≡ false) }
+        ensures kept { self.new.kept ≡ self.old.kept }
+    {
+        if self.owes_names {
+            self.own.sync_all()?;
+            self.owes_names = false;
+        }
+        Ok(())
+    }
+
+    // Makes names durable that have just changed. If the device fails at that, the next call that needs them durable tries again.
+    fn settle_names(&mut self)
+        ensures { self.new.kept ≡ self.old.kept }
+    {
+        self.owes_names = true;
+        let _ = self.sync_names();
     }
 
     /// The length of a file in bytes.
@@ -139,6 +157,7 @@ impl<R: Files<File = File> + AllocGlobal + Clone + Drop> Folder<R> {
     }
 
     /// Puts a whole file in the place of what was there. A stop leaves either the old file or the new one.
+    /// Names that are owed from an earlier change are made durable first.
     pub(crate) fn put(&mut self, file: FileName, bytes: &[u8]) -> io::Result<()>
         ensures { IsClosed self.new.kept.files.entries file }
     {
@@ -146,6 +165,7 @@ impl<R: Files<File = File> + AllocGlobal + Clone + Drop> Folder<R> {
         self.size(file)?;
         let path = self.path_of(file)?;
         let draft = self.draft_of(file)?;
+        self.sync_names()?;
         if_there(fs::remove_file(&self.rt, draft.as_path()))?;
         let opened = self.open_at(draft.as_path(), Access::Draft)?;
         let put = write_whole(opened, bytes).and_then(|()| fs::rename(
@@ -157,7 +177,8 @@ impl<R: Files<File = File> + AllocGlobal + Clone + Drop> Folder<R> {
             let _ = fs::remove_file(&self.rt, draft.as_path());
         }
         put?;
-        self.sync_names()
+        self.settle_names();
+        Ok(())
     }
 
     /// Cuts a file off at a length that it has.
@@ -169,7 +190,7 @@ impl<R: Files<File = File> + AllocGlobal + Clone + Drop> Folder<R> {
         self.kept.cut(file, size)
     }
 
-    /// Gives a file another name, in the place of what had it.
+    /// Gives a file another name, in the place of what had it. Names that are owed from an earlier change are made durable first.
     pub(crate) fn rename(&mut self, from: FileName, to: FileName) -> io::Result<()>
         ensures from { IsClosed self.new.kept.files.entries from }
         ensures to { IsClosed self.new.kept.files.entries to }
@@ -180,11 +201,13 @@ impl<R: Files<File = File> + AllocGlobal + Clone + Drop> Folder<R> {
         self.size(to)?;
         let old = self.path_of(from)?;
         let new = self.path_of(to)?;
+        self.sync_names()?;
         fs::rename(&self.rt, old.as_path(), new.as_path())?;
-        self.sync_names()
+        self.settle_names();
+        Ok(())
     }
 
-    /// Removes a file, if there is one.
+    /// Removes a file, if there is one. Names that are owed from an earlier change are made durable first.
     pub(crate) fn remove(&mut self, file: FileName) -> io::Result<()>
         ensures { IsClosed self.new.kept.files.entries file }
     {
@@ -193,16 +216,24 @@ impl<R: Files<File = File> + AllocGlobal + Clone + Drop> Folder<R> {
             return Ok(());
         }
         let path = self.path_of(file)?;
+        self.sync_names()?;
         fs::remove_file(&self.rt, path.as_path())?;
-        self.sync_names()
+        self.settle_names();
+        Ok(())
     }
 
-    /// Makes what was written to a file durable.
+    /// Makes what was written to a file durable, and the names of the folder if they are owed.
     pub(crate) fn sync(&mut self, file: FileName) -> io::Result<()>
-        ensures { OnErr result (IsClosed self.new.kept.files.entries file) }
+        ensures names { OnOk result (self.new.owes_names ≡ false) }
+        ensures err { OnErr result (IsClosed self.new.kept.files.entries file) }
     {
         self.keep_open(file, Access::Read)?;
-        self.kept.sync(file)
+        self.kept.sync(file)?;
+        let named = self.sync_names();
+        if named.is_err() {
+            self.kept.close(file);
+        }
+        named
     }
 
     /// The names of the files that are there.

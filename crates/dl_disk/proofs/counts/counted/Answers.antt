@@ -11,6 +11,7 @@ returns-in-Some-clause-counts g c =
     record {
       later = search rules;
       fault = λ _. search rules;
+      calm = λ ok. search rules;
       others = count_kept (get same_base c.args.counts.now) (get same_base (c.get_mut.follows.lender c.saturating_add.result)) c.args.base (Some c.saturating_add.result) written.0;
     }
 
