@@ -9,7 +9,7 @@ use Rattle.dl_types.specs.declared.reply.Reply.TheVariants as reply
 use Rattle.dl_types.specs.declared.reply.Turn.{Turn}
 use Rattle.dl_types.specs.declared.reply.Turn.TheVariants.{Drained, Idle, Fault}
 use Rattle.dl_types.specs.Name.{name_text}
-use Rattle.dl_types.specs.Printed.{characters_of}
+use Rattle.dl_types.specs.Printed.{characters_of, refusal_text}
 pub use Rattle.dl_app.specs.Hex.{hex}
 use Rattle.dl_app.specs.InfoText.{info_text}
 
@@ -26,9 +26,9 @@ items_text bad items = codes "items " ++ decimal bad ++ flat_map item_text items
 abbrev pub place_text : Continuation → List ℕ
 place_text place = codes "at " ++ decimal place.generation ++ codes " " ++ decimal place.passed
 
--- the text of a refusal: nothing is said of it here
+-- a text says this refusal
 abbrev pub IsRefusalText : Refusal → List ℕ → Type 0
-IsRefusalText refusal text = Unit {0}
+IsRefusalText refusal text = text ≡ refusal_text refusal
 
 -- how many items were kept, and how many bytes cut
 abbrev pub repaired_text : ℕ → ℕ → List ℕ

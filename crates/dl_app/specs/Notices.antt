@@ -10,8 +10,8 @@ use Rattle.dl_types.specs.declared.reply.Outcome.{Outcome}
 use Rattle.dl_types.specs.declared.reply.Status.TheVariants as status
 use Rattle.dl_types.specs.Name.{name_text}
 use Rattle.dl_types.specs.Notice.{Said, Changed, ReadOnly, Blocked, NoSuchLog, Told}
-use Rattle.dl_types.specs.Printed.{characters_of}
-use Rattle.dl_app.specs.Answers.{item_text, IsRefusalText, IsReplyText}
+use Rattle.dl_types.specs.Printed.{characters_of, refusal_text}
+use Rattle.dl_app.specs.Answers.{item_text, IsReplyText}
 
 -- how many items are gone with the files that the next one replaced
 abbrev pub wrap_text : ℕ → List ℕ
@@ -27,7 +27,7 @@ IsChangeText (change.Wrap count) text = text ≡ wrap_text count
 IsChangeText (change.Truncated count) text = text ≡ truncated_text count
 IsChangeText change.Full text = text ≡ codes "full"
 IsChangeText (change.ErrorStatus status.Ok) text = text ≡ codes "status ok"
-IsChangeText (change.ErrorStatus (status.Fault refusal)) text = (why : List ℕ) × IsRefusalText refusal why × (text ≡ codes "status " ++ why)
+IsChangeText (change.ErrorStatus (status.Fault refusal)) text = text ≡ codes "status " ++ refusal_text refusal
 
 -- a word, and then items that were sent and not logged, as a chunk's items are shown
 abbrev pub sent_text : List ℕ → List (List ℕ) → List ℕ

@@ -1,5 +1,6 @@
 // Notices as text.
-ghost use Rattle.std.specs.Prelude.{◌≡◌, ◌++◌, ℕ, List, IfErr, OnOk};
+ghost use Rattle.std.specs.Prelude.{◌≡◌, ◌++◌, ℕ, List, IfErr, OnOk, codes};
+ghost use Rattle.dl_types.specs.Printed.{refusal_text};
 ghost use Rattle.dl_types.specs.Notice.{said_by};
 ghost use Rattle.dl_app.specs.Notices.{IsChangeText, IsNoticeText, IsDeliveryText, AreDeliveryTexts, sent_text, told_text, truncated_text, wrap_text};
 
@@ -111,17 +112,11 @@ fn push_truncated<A: Allocator>(text: &mut Vec<u8, A>, count: u64) -> Result<(),
 }
 
 // Adds an error status.
-fn push_status<A: Allocator + Copy>(
-    text: &mut Vec<u8, A>,
-    refusal: Refusal,
-) -> Result<(), ScriptFault>
-    ensures text { OnOk result ((said : List ℕ) × IsChangeText (Change.ErrorStatus (Status.Fault refusal)) said × (text.new.items ≡ text.old.items ++ said)) }
+fn push_status<A: Allocator>(text: &mut Vec<u8, A>, refusal: Refusal) -> Result<(), ScriptFault>
+    ensures text { OnOk result (text.new.items ≡ text.old.items ++ (codes "status " ++ refusal_text refusal)) }
     ensures fault { IfErr result (λ e. e ≡ ScriptFault.OutOfMemory) }
 {
-    let mut why = Vec::new(*text.allocator());
-    write!(why, "{refusal}").map_err(|_| ScriptFault::OutOfMemory)?;
-    push_bytes(text, b"status ")?;
-    push_bytes(text, why.as_slice())
+    write!(text, "status {refusal}").map_err(|_| ScriptFault::OutOfMemory)
 }
 
 // Adds bytes as they are.

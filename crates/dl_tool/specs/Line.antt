@@ -4,7 +4,7 @@ use Rattle.std.specs.Fmt.{decimal}
 use Rattle.dl_types.specs.declared.size.Kind.{Kind}
 use Rattle.dl_types.specs.declared.size.Kind.TheVariants.{Halt, Wrap}
 use Rattle.dl_types.specs.Name.{base_text}
-use Rattle.dl_types.specs.Printed.{characters_of, printed_file}
+use Rattle.dl_types.specs.Printed.{characters_of, printed_file, refusal_text}
 use Rattle.dl_tool.specs.declared.finding.Amount.{Amount}
 use Rattle.dl_tool.specs.declared.finding.Finding.{Finding}
 use Rattle.dl_tool.specs.declared.finding.Finding.TheVariants.{Absent, Clean, Torn, Refused, Unread}
@@ -31,12 +31,12 @@ kept_text kept = codes " needs repair: " ++ decimal kept ++ codes " items kept, 
 abbrev pub cut_text : ℕ → List ℕ
 cut_text cut = decimal cut ++ codes " bytes bad"
 
--- a text says what was found; nothing is said of the text of a refusal
+-- a text says what was found
 abbrev pub IsFindingText : Finding → List ℕ → Type 0
 IsFindingText Absent text = text ≡ codes "no such log"
 IsFindingText (Clean a) text = text ≡ amount_text a ++ codes " clean"
 IsFindingText (Torn a file kept cut) text = text ≡ amount_text a ++ kept_text kept ++ cut_text cut
-IsFindingText (Refused refusal) text = (why : List ℕ) × (text ≡ codes "refused: " ++ why)
+IsFindingText (Refused refusal) text = text ≡ codes "refused: " ++ refusal_text refusal
 IsFindingText (Unread file) text = text ≡ codes "cannot read " ++ printed_file file
 
 -- the line of what was found of a log

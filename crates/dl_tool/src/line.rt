@@ -1,6 +1,6 @@
 // What is found of a log, as a line.
 ghost use Rattle.std.specs.Prelude.{◌≡◌, ◌++◌, List, ℕ, OnOk, codes};
-ghost use Rattle.dl_types.specs.Printed.{printed_file};
+ghost use Rattle.dl_types.specs.Printed.{printed_file, refusal_text};
 ghost use Rattle.dl_tool.specs.Line.{kind_word, log_text, amount_text, kept_text, cut_text, IsFindingText, IsLine};
 
 use crate::finding::{Amount, Finding};
@@ -120,16 +120,10 @@ pub fn push_cut<A: Allocator>(text: &mut Vec<u8, A>, cut: u64) -> Result<(), All
 }
 
 // Adds why an open is refused.
-fn push_refusal<A: Allocator + Copy>(
-    text: &mut Vec<u8, A>,
-    refusal: Refusal,
-) -> Result<(), AllocError>
-    ensures { OnOk result ((why : List ℕ) × (text.new.items ≡ text.old.items ++ (codes "refused: " ++ why))) }
+fn push_refusal<A: Allocator>(text: &mut Vec<u8, A>, refusal: Refusal) -> Result<(), AllocError>
+    ensures { OnOk result (text.new.items ≡ text.old.items ++ (codes "refused: " ++ refusal_text refusal)) }
 {
-    let mut why = Vec::new(*text.allocator());
-    write!(why, "{refusal}").map_err(|_| AllocError)?;
-    push_bytes(text, b"refused: ")?;
-    push_bytes(text, why.as_slice())
+    write!(text, "refused: {refusal}").map_err(|_| AllocError)
 }
 
 // Adds at which file the device failed.

@@ -33,7 +33,7 @@ returns-in_ok-put_refusal-in-Err-Refused-clause-done g c =
     refused_is _ (refusal_in c.args.request.now) _ refusal c.in-Err-Refused.field-0-is c.in-Err-Refused.ensures.refused c.in-Err-Refused.ensures.memory in
     let old = stage_of c.args.hub.now c.args.self.now in
     let call = call_in {Z = g.row.A.Denot} c.args.request.now (place_of c.args.self.now.places c.args.client c.args.log) in
-    let line = subst (IsLineOf (IsRefusalText refusal)) (sym c.as_slice.ensures.value) c.in_ok-put_refusal-in-Err-Refused.ensures.line in
+    let line = subst (IsLineOf (IsRefusalText refusal)) (sym c.as_slice.ensures.value) (subst (λ (x : Refusal). IsLineOf (IsRefusalText x) c.put_refusal.new.line.items) c.in-Err-Refused.refusal-is c.in_ok-put_refusal-in-Err-Refused.ensures.line) in
     answered c.write_answer.result (IsCalled D.state g.row.A.Denot (refusal_in c.args.request.now) c.args.client c.args.log call old old)
     (Appends (g.W.Write.contents c.args.output.now) (g.W.Write.contents c.write_answer.new.output)) c.as_slice.result.now
     (subst (λ (o : Option Refusal). IsCalled D.state g.row.A.Denot o c.args.client c.args.log call old old c.as_slice.result.now) (sym is) (refl, line))
