@@ -13,6 +13,9 @@ use std::alloc::{AllocError, Allocator};
 ///
 /// Contracts see its files as a finite map from names to bytes, and its faults as a count by base. What they say of
 /// files holds of an honest disk, one that answers what was written. A disk that has once been dishonest stays so.
+///
+/// A file that was put, renamed or removed is answered so, though its name may not be durable yet where the device failed
+/// after that. A disk remembers it: the next change of names and the next `sync` of any file make it durable, or are a fault.
 pub trait Disk {
     /// What the disk is seen as: its files, whether it was honest so far, and its counts of faults.
     ghost state: { Self → DiskState };
@@ -47,7 +50,7 @@ pub trait Disk {
         ensures torn { IsTrue (state self.new).honest → OnErr result (TornAt (map.get (state self.old).content file) at (length bytes.now) (map.get (state self.new).content file)) }
         ensures others { IsTrue (state self.new).honest → (f : FileName) → f ≢ file → map.get (state self.new).content f ≡ map.get (state self.old).content f };
 
-    /// Puts a whole file in the place of what was there.
+    /// Puts a whole file in the place of what was there, with durable bytes. A fault has left what was there.
     fn put(&mut self, file: FileName, bytes: &[u8]) -> Result<(), Fault>
         requires { IsTrue ((state self.old).known file.base) }
         ensures device { IsCallOn file.base (state self.old) (state self.new) result }
@@ -62,7 +65,8 @@ pub trait Disk {
             × ((state self.new).content ≡ map.insert (state self.old).content file (take size text))) }
         ensures err { IsTrue (state self.new).honest → OnErr result ((state self.new).content ≡ (state self.old).content) };
 
-    /// Gives a file another name, in the place of what had it. No file is a fault, counted under the old name's base.
+    /// Gives a file another name, in the place of what had it. No file is a fault, counted under the old name's base. A fault
+    /// has left both names as they were.
     fn rename(&mut self, from: FileName, to: FileName) -> Result<(), Fault>
         requires { IsTrue ((state self.old).known from.base) }
         ensures device { IsCallOn from.base (state self.old) (state self.new) result }
@@ -70,14 +74,14 @@ pub trait Disk {
             × ((state self.new).content ≡ map.insert (map.remove (state self.old).content from) to text)) }
         ensures err { IsTrue (state self.new).honest → OnErr result ((state self.new).content ≡ (state self.old).content) };
 
-    /// Removes a file. It succeeds if there is no such file.
+    /// Removes a file. It succeeds if there is no such file. A fault has left it.
     fn remove(&mut self, file: FileName) -> Result<(), Fault>
         requires { IsTrue ((state self.old).known file.base) }
         ensures device { IsCallOn file.base (state self.old) (state self.new) result }
         ensures ok { IsTrue (state self.new).honest → OnOk result ((state self.new).content ≡ map.remove (state self.old).content file) }
         ensures err { IsTrue (state self.new).honest → OnErr result ((state self.new).content ≡ (state self.old).content) };
 
-    /// Makes what was written to a file durable. No file is a fault.
+    /// Makes what was written to a file durable, and changes of names that are not durable yet. No file is a fault.
     fn sync(&mut self, file: FileName) -> Result<(), Fault>
         requires { IsTrue ((state self.old).known file.base) }
         ensures device { IsCallOn file.base (state self.old) (state self.new) result }
