@@ -1,4 +1,5 @@
-//! Tests of item files, and of the files of halt and wrap logs, that need their public calls alone.
+//! Tests of item files and of the files of halt logs, by their public calls. They load the layers up to `dl_halt`, which
+//! the tests below them need not wait for.
 #![tactic(auto)]
 
 #[cfg(test)]

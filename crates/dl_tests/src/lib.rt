@@ -1,4 +1,5 @@
-//! Tests of the lowest libraries that need their public calls alone.
+//! Tests of the bytes, the cache, the index, the owners and the disks, by their public calls. They stand apart since a
+//! crate with tests is proved twice, and load no file of a log.
 #![tactic(auto)]
 
 #[cfg(test)]
