@@ -47,8 +47,7 @@ impl<A: Allocator> Rig<A> {
         if self.index.reserve(1).is_err() || self.index.current().generation >= GENERATION_LIMIT {
             return false;
         }
-        let next = self.index.following();
-        self.index.with_next(next);
+        self.index.with_next();
         true
     }
 
