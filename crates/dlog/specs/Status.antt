@@ -4,6 +4,8 @@ use Rattle.dl_tool.specs.declared.finding.Finding.{Finding}
 use Rattle.dl_tool.specs.declared.finding.Finding.TheVariants as finding
 use Rattle.dl_tool.specs.declared.report.Health.{Health}
 use Rattle.dl_tool.specs.declared.report.Health.TheVariants.{Clean, Unclean, Unread}
+use Rattle.dl_digest.specs.declared.compare.Verdict.{Verdict}
+use Rattle.dl_digest.specs.declared.compare.Verdict.TheVariants.{Same, Gone, Shorter, Changed}
 use Rattle.dl_app.specs.declared.fault.ScriptFault.{ScriptFault}
 use Rattle.dl_app.specs.declared.fault.ScriptFault.TheVariants.{BadLine, Read, Write, OutOfMemory}
 use Rattle.dl_pipe.specs.declared.dump.Gap.{Gap}
@@ -58,3 +60,10 @@ fault_status fault.OutOfMemory = 1
 abbrev pub append_status : Option PipeFault → ℕ
 append_status None = 0
 append_status (Some stopped) = 1
+
+-- 0 if items are as they were, or their file gave way to another, and 1 if they are fewer or others
+abbrev pub verdict_status : Verdict → ℕ
+verdict_status Same = 0
+verdict_status Gone = 0
+verdict_status Shorter = 1
+verdict_status Changed = 1

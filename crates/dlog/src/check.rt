@@ -4,8 +4,10 @@ ghost use Rattle.std.specs.Process.{exit_status};
 ghost use Rattle.dlog.specs.Status.{health_status};
 
 use crate::folder::{FolderOfLogs, folder_word, logs_in, no_name, opened};
-use crate::{BUFFER_BYTES, UNCLEAN, UNREAD, tell};
+use crate::kept::{compare_logs, lines_in, with_missing};
+use crate::{BUFFER_BYTES, MISUSED, UNCLEAN, UNREAD, tell};
 use clap::{Arg, ArgAction, ArgMatches, Command};
+use dl_digest::DigestLine;
 use dl_tool::{
     Health, LogFiles, ReportFault, Style, check_logs, find_strays, list_logs, logs_named,
 };
@@ -17,14 +19,19 @@ use std::process::ExitCode;
 
 /// The words of the command that checks logs.
 pub fn check_command<'a>(alloc: Global) -> Result<Command<'a>, AllocError> {
+    let digests = Arg::new(alloc, "digests")
+        .long("digests")
+        .value_name("FILE")
+        .help("Hold the logs against the lines in FILE too, which dlog digest told before");
     Command::new(alloc, "check")
         .about("Check the logs of a folder, and change nothing")
         .after_help(
-            "A line is told for each log: how much it has, and `clean`, or what an open would do.\nThe status is 0 if all are clean, 1 if one is not, and 3 if one could not be read.\n\nExample: dlog check logs audit",
+            "A line is told for each log: how much it has, and `clean`, or what an open would do.\nWith --digests a line is told for each digest that does not hold: `changed` if the items have another one, `shorter` if there are fewer, and `gone` if their file is not there, since it gave way to another or was emptied. Items that came since are no change.\nThe status is 0 if all are clean, and no digest says changed or shorter, 1 if not, 2 if FILE has a line that is no digest, and 3 if a log or FILE could not be read.\n\nExamples: dlog check logs audit\n          dlog check logs --digests audit.digests",
         )
         .arg(folder_word(alloc))?
         .arg(names_word(alloc))?
-        .arg(json_word(alloc))
+        .arg(json_word(alloc))?
+        .arg(digests)
 }
 
 /// The words of the command that lists logs.
@@ -39,8 +46,8 @@ pub fn list_command<'a>(alloc: Global) -> Result<Command<'a>, AllocError> {
         .arg(json_word(alloc))
 }
 
-// The word for the logs.
-fn names_word<'a>(alloc: Global) -> Arg<'a> {
+/// The word for the logs.
+pub fn names_word<'a>(alloc: Global) -> Arg<'a> {
     Arg::new(alloc, "names")
         .value_name("NAME")
         .action(ArgAction::Append)
@@ -58,7 +65,12 @@ pub fn json_word<'a>(alloc: Global) -> Arg<'a> {
 
 /// Checks the logs that the words name.
 pub fn check(rt: &HostRuntime, options: &ArgMatches<'_>) -> ExitCode {
-    match try_check(rt, options, style_in(options)) {
+    let style = style_in(options);
+    let checked = match options.get_str("digests") {
+        None => try_check(rt, options, style),
+        Some(path) => try_compare(rt, options, path, style),
+    };
+    match checked {
         Ok(status) | Err(status) => status,
     }
 }
@@ -90,18 +102,57 @@ fn try_check(
     style: Style,
 ) -> Result<ExitCode, ExitCode> {
     let mut disk = opened(rt, options)?;
-    check_folder(rt, options, &mut disk, style)
+    let logs = logs_asked(rt, options, &mut disk)?;
+    check_folder(rt, options, &mut disk, &logs, style)
 }
 
-// Checks the logs of a folder that the words name, and finds the files that no index names if they name none.
+// Checks the logs, and holds them against the digests in the file at this path, or says why the words do not name any.
+fn try_compare(
+    rt: &HostRuntime,
+    options: &ArgMatches<'_>,
+    path: &str,
+    style: Style,
+) -> Result<ExitCode, ExitCode> {
+    let lines = lines_in(rt, path)?;
+    let mut disk = opened(rt, options)?;
+    let logs = logs_to_compare(rt, options, &mut disk, &lines)?;
+    let checked = check_folder(rt, options, &mut disk, &logs, style)?;
+    let compared = compare_logs(rt, disk, &logs, &lines, style);
+    Ok(worse(checked, compared))
+}
+
+// The logs that the words name, or all of the folder and those that lines name and the folder does not have.
+fn logs_to_compare(
+    rt: &HostRuntime,
+    options: &ArgMatches<'_>,
+    disk: &mut FolderOfLogs,
+    lines: &[DigestLine],
+) -> Result<Vec<LogFiles>, ExitCode> {
+    let logs = logs_of_one_kind(rt, options, disk)?;
+    if options.get_strs("names").is_some() {
+        return Ok(logs);
+    }
+    with_missing(rt, logs, lines)
+}
+
+// The status of both: that a log could not be read comes first.
+fn worse(checked: ExitCode, compared: u8) -> ExitCode {
+    if checked == ExitCode::SUCCESS || compared == UNREAD {
+        ExitCode::from(compared)
+    } else {
+        checked
+    }
+}
+
+// Checks these logs of a folder, and finds the files that no index names if the words name no log.
 fn check_folder(
     rt: &HostRuntime,
     options: &ArgMatches<'_>,
     disk: &mut FolderOfLogs,
+    logs: &[LogFiles],
     style: Style,
 ) -> Result<ExitCode, ExitCode> {
-    let logs = logs_asked(rt, options, disk)?;
-    let status = check_these(rt, disk, &logs, style)?;
+    let status = check_these(rt, disk, logs, style)?;
     if options.get_strs("names").is_none() {
         tell_strays(rt, disk, style)?;
     }
@@ -160,6 +211,31 @@ fn list_folder(
     let listed = list_logs(rt.alloc(), disk, &logs, &mut output);
     let is_written = output.flush().is_ok();
     Ok(end(rt, listed, is_written))
+}
+
+/// The logs that the words name, of which no two have the same name: a digest tells no kind.
+pub fn logs_of_one_kind(
+    rt: &HostRuntime,
+    options: &ArgMatches<'_>,
+    disk: &mut FolderOfLogs,
+) -> Result<Vec<LogFiles>, ExitCode> {
+    let logs = logs_asked(rt, options, disk)?;
+    for files in &logs {
+        let LogFiles { base, kind } = *files;
+        if logs
+            .iter()
+            .any(|other| other.base == base && other.kind != kind)
+        {
+            return Err(tell(
+                rt,
+                format_args!(
+                    "{base}: there is a halt log and a wrap log, and a digest tells no kind: name other logs"
+                ),
+                MISUSED,
+            ));
+        }
+    }
+    Ok(logs)
 }
 
 // The logs that the words name: those of these bases, or all of the folder.

@@ -9,9 +9,11 @@ ghost use Rattle.dlog.specs.Status.{status_of, status_after};
 mod advice;
 mod append;
 mod check;
+mod digest;
 mod dump;
 mod folder;
 mod info;
+mod kept;
 mod repair;
 mod watched;
 
@@ -69,6 +71,7 @@ fn run_command(rt: &HostRuntime, name: &str, options: &ArgMatches<'_>) -> ExitCo
         "repair" => repair::run(rt, options),
         "append" => append::run(rt, options),
         "dump" => dump::run(rt, options),
+        "digest" => digest::run(rt, options),
         _ => run(rt, options),
     }
 }
@@ -99,7 +102,8 @@ fn with_reports<'a>(alloc: Global, command: Command<'a>) -> Result<Command<'a>, 
     command
         .subcommand(check::check_command(alloc)?)?
         .subcommand(check::list_command(alloc)?)?
-        .subcommand(info::command(alloc)?)
+        .subcommand(info::command(alloc)?)?
+        .subcommand(digest::command(alloc)?)
 }
 
 // The command line with the commands that work on a log.

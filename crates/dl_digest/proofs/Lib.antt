@@ -1,0 +1,4 @@
+pub mod ByFile
+pub mod Words
+pub mod Taken
+pub mod Compares

@@ -1,0 +1,175 @@
+// Logs are held against digests that were taken of them before.
+ghost use Rattle.std.specs.Prelude.{◌≡◌};
+ghost use Rattle.dlog.specs.Status.{verdict_status};
+
+use crate::advice::advice_on;
+use crate::folder::FolderOfLogs;
+use crate::{BLOCKS, BUFFER_BYTES, MISUSED, UNCLEAN, UNREAD, tell};
+use dl_digest::{Compared, DigestLine, Extent, ListFault, Verdict, compare_log, read_lines};
+use dl_hub::Hub;
+use dl_pipe::PipeFault;
+use dl_tool::{LogFiles, ReportFault, Style};
+use dl_types::{Base, Kind, Name, Refusal};
+use std::fs::File;
+use std::io;
+use std::io::BufReader;
+use std::process::ExitCode;
+
+// The status if everything is as it was.
+const CLEAN: u8 = 0;
+
+/// The digests in the file at this path.
+pub fn lines_in(rt: &HostRuntime, path: &str) -> Result<Vec<DigestLine>, ExitCode> {
+    let file = match File::open(rt, path) {
+        Ok(file) => file,
+        Err(error) => return Err(tell(rt, format_args!("{path}: {error}"), UNREAD)),
+    };
+    let Ok(mut input) = BufReader::with_capacity(rt.alloc(), BUFFER_BYTES, file) else {
+        return Err(tell(rt, ListFault::OutOfMemory, UNREAD));
+    };
+    match read_lines(rt.alloc(), &mut input) {
+        Ok(lines) => Ok(lines),
+        Err(fault) => {
+            let status = match fault {
+                ListFault::BadLine(_) => MISUSED,
+                ListFault::Read | ListFault::OutOfMemory => UNREAD,
+            };
+            Err(tell(rt, format_args!("{path}: {fault}"), status))
+        }
+    }
+}
+
+/// Logs, and those that lines name and are not among them, as halt logs, which a check finds absent.
+pub fn with_missing(
+    rt: &HostRuntime,
+    found: Vec<LogFiles>,
+    lines: &[DigestLine],
+) -> Result<Vec<LogFiles>, ExitCode> {
+    let mut logs = found;
+    for line in lines {
+        let base = Base::of(line.log);
+        let kind = Kind::Halt;
+        if !logs.iter().any(|files| files.base == base)
+            && logs.push(LogFiles { base, kind }).is_err()
+        {
+            return Err(tell(rt, ReportFault::OutOfMemory, UNREAD));
+        }
+    }
+    Ok(logs)
+}
+
+/// Holds logs of a folder against these digests. What does not hold is told, and the status says so.
+pub fn compare_logs(
+    rt: &HostRuntime,
+    disk: FolderOfLogs,
+    logs: &[LogFiles],
+    lines: &[DigestLine],
+    style: Style,
+) -> u8 {
+    match Hub::new(rt.alloc(), disk, BLOCKS) {
+        Ok(mut hub) => compare_in(rt, &mut hub, logs, lines, style),
+        Err(fail) => {
+            let _ = tell(rt, fail, UNREAD);
+            UNREAD
+        }
+    }
+}
+
+// Compares each log of a hub, whatever became of those before it.
+fn compare_in(
+    rt: &HostRuntime,
+    hub: &mut Hub<FolderOfLogs>,
+    logs: &[LogFiles],
+    lines: &[DigestLine],
+    style: Style,
+) -> u8 {
+    let mut status = CLEAN;
+    for files in logs {
+        if let Some(log) = Name::parse(files.base.as_bytes()) {
+            let done = compare_log(rt.alloc(), hub, log, files.kind, lines);
+            status = status.max(end(rt, log, done, style));
+        }
+    }
+    status
+}
+
+// Tells what became of the lines of a log, or why it was not read.
+fn end(rt: &HostRuntime, log: Name, done: Result<Vec<Compared>, PipeFault>, style: Style) -> u8 {
+    match done {
+        Ok(compared) => tell_each(rt, &compared, style),
+        // The check has told that the log is absent.
+        Err(PipeFault::Refused(Refusal::NoFile)) => UNCLEAN,
+        Err(fault) => {
+            let advice = advice_on(fault);
+            let status = fault_status(fault);
+            let _ = tell(rt, format_args!("{log}: {fault}{advice}"), status);
+            status
+        }
+    }
+}
+
+// The status if a log was not read.
+fn fault_status(fault: PipeFault) -> u8 {
+    match fault {
+        PipeFault::Refused(Refusal::DeviceFault(_)) | PipeFault::OutOfMemory => UNREAD,
+        _ => UNCLEAN,
+    }
+}
+
+// Tells what does not hold.
+fn tell_each(rt: &HostRuntime, compared: &[Compared], style: Style) -> u8 {
+    let mut status = CLEAN;
+    for one in compared {
+        if tell_one(rt, *one, style).is_err() {
+            let _ = tell(rt, ReportFault::Write, UNREAD);
+            return UNREAD;
+        }
+        status = status.max(verdict_status(one.verdict));
+    }
+    status
+}
+
+// Tells what became of the items of a line, unless they are the same.
+fn tell_one(rt: &HostRuntime, one: Compared, style: Style) -> io::Result<()> {
+    let DigestLine {
+        log,
+        extent,
+        digest,
+    } = one.line;
+    let Some(word) = word_of(one.verdict) else {
+        return Ok(());
+    };
+    let items = digest.items;
+    match (style, extent) {
+        (Style::Line, Extent::File(generation)) => {
+            println!(rt; "{log} {generation} {word}, of {items} items")
+        }
+        (Style::Line, Extent::All) => println!(rt; "{log} all {word}, of {items} items"),
+        (Style::Json, Extent::File(generation)) => println!(rt;
+            "{{\"name\":\"{log}\",\"generation\":{generation},\"state\":\"{word}\",\"items\":{items}}}"
+        ),
+        (Style::Json, Extent::All) => println!(rt;
+            "{{\"name\":\"{log}\",\"state\":\"{word}\",\"items\":{items}}}"
+        ),
+    }
+}
+
+// The word for what does not hold.
+fn word_of(verdict: Verdict) -> Option<&'static str> {
+    match verdict {
+        Verdict::Same => None,
+        Verdict::Gone => Some("gone"),
+        Verdict::Shorter => Some("shorter"),
+        Verdict::Changed => Some("changed"),
+    }
+}
+
+// The status that says what became of items. A file that gave way to another is no fault.
+fn verdict_status(verdict: Verdict) -> u8
+    ensures { result ≡ verdict_status verdict }
+{
+    match verdict {
+        Verdict::Same | Verdict::Gone => CLEAN,
+        Verdict::Shorter | Verdict::Changed => UNCLEAN,
+    }
+}
