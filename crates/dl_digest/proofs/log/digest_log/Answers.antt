@@ -42,7 +42,7 @@ returns-in_err-check_done-clause-cut g c =
 
 pub returns-in_err-finish-clause-cut : goal.returns-in_err-finish-clause-cut
 returns-in_err-finish-clause-cut g c =
-    let is : c.from_residual-in_err-finish.result ≡ Err OutOfMemory = search rules in
+    let is : c.from_residual-in_err-finish.result ≡ Err OutOfMemory = err_is c.from_residual-in_err-finish.result OutOfMemory c.from_residual-in_err-finish.ensures.1 in
     let read = c.in_ok-read.ensures.read in
     rw is (inr (record {
       given = read.0;
