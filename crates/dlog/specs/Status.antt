@@ -8,6 +8,7 @@ use Rattle.dl_digest.specs.declared.compare.Verdict.{Verdict}
 use Rattle.dl_digest.specs.declared.compare.Verdict.TheVariants.{Same, Gone, Shorter, Changed}
 use Rattle.dl_app.specs.declared.fault.ScriptFault.{ScriptFault}
 use Rattle.dl_app.specs.declared.fault.ScriptFault.TheVariants.{BadLine, Read, Write, OutOfMemory}
+use Rattle.dl_pipe.specs.declared.append.Stop.{Stop}
 use Rattle.dl_pipe.specs.declared.dump.Gap.{Gap}
 use Rattle.dl_pipe.specs.declared.fault.PipeFault.{PipeFault}
 use Rattle.dl_pipe.specs.declared.fault.PipeFault.TheVariants as fault
@@ -57,9 +58,9 @@ fault_status fault.ReaderGone = 0
 fault_status fault.OutOfMemory = 1
 
 -- 0 if all items were logged
-abbrev pub append_status : Option PipeFault → ℕ
+abbrev pub append_status : Option Stop → ℕ
 append_status None = 0
-append_status (Some stopped) = 1
+append_status (Some stop) = 1
 
 -- 0 if items are as they were, or their file gave way to another, and 1 if they are fewer or others
 abbrev pub verdict_status : Verdict → ℕ

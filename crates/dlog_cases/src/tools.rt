@@ -201,7 +201,7 @@ fn tell_append(done: Result<Appended, PipeFault>, output: &mut Vec<u8>) -> Resul
     let taken = appended.items;
     writeln!(output, "{taken} taken")?;
     match appended.stopped {
-        Some(fault) => tell_fault(fault, output),
+        Some(stop) => tell_fault(stop.fault, output),
         None => Ok(()),
     }
 }
