@@ -96,10 +96,10 @@ fn disk<R: Abort>(rt: &R, alloc: Global) -> MemoryDisk {
 }
 
 // What two clients did, in the order of their ids.
-fn play<R: Threads + Wait + Abort + Sync>(
-    rt: &R,
+fn play<'a, R: Threads + Wait + Abort + Sync>(
+    rt: &'a R,
     alloc: Global,
-    server: &Server<MemoryDisk>,
+    server: &'a Server<MemoryDisk>,
 ) -> Vec<Done> {
     let mut first = Part::new(rt, alloc, server);
     let second = Part::new(rt, alloc, server);

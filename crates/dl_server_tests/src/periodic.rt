@@ -23,10 +23,10 @@ fn await_items<R: Wait + Abort>(part: &mut Part<'_, R>, log: Name, text: u8, cou
 }
 
 // Sends items, now and then, to a flusher that sleeps in between, and ends it.
-fn play<R: Threads + Wait + Clock + Abort + Sync>(
-    rt: &R,
+fn play<'a, R: Threads + Wait + Clock + Abort + Sync>(
+    rt: &'a R,
     alloc: Global,
-    server: &Server<MemoryDisk>,
+    server: &'a Server<MemoryDisk>,
     period: Duration,
 ) {
     let log = named(rt, b"q");

@@ -57,10 +57,10 @@ fn send<R: Threads + Wait + Abort + Sync>(
 }
 
 // What three clients did, of whom the second waits for the block of the first.
-fn play<R: Threads + Wait + Abort + Sync>(
-    rt: &R,
+fn play<'a, R: Threads + Wait + Abort + Sync>(
+    rt: &'a R,
     alloc: Global,
-    server: &Server<MemoryDisk>,
+    server: &'a Server<MemoryDisk>,
 ) -> Vec<Done> {
     let log = named(rt, b"q");
     let mut first = Part::new(rt, alloc, server);
@@ -102,10 +102,16 @@ fn a_full_ring_says_so_and_held_items_come_in_order(rt: HostRuntime) {
 }
 
 // Sends some items, each as soon as the ring has room, and exits.
-fn write<R: Wait + Abort>(part: Part<'_, R>, log: Name, text: u8) -> Done {
-    let mut part = part;
+fn write<'a, R: Wait + Abort>(
+    rt: &'a R,
+    alloc: Global,
+    server: &'a Server<MemoryDisk>,
+    log: Name,
+    text: u8,
+) -> Done {
+    let mut part = Part::new(rt, alloc, server);
     for _ in 0..200u32 {
-        for _ in part.rt.forever() {
+        for _ in rt.forever() {
             if part.sends(log, &[text]) {
                 break;
             }
@@ -116,10 +122,10 @@ fn write<R: Wait + Abort>(part: Part<'_, R>, log: Name, text: u8) -> Done {
 }
 
 // Four writers, and a flusher that takes in what they send.
-fn write_all<R: Threads + Wait + Clock + Abort + Sync>(
-    rt: &R,
+fn write_all<'a, R: Threads + Wait + Clock + Abort + Sync>(
+    rt: &'a R,
     alloc: Global,
-    server: &Server<MemoryDisk>,
+    server: &'a Server<MemoryDisk>,
     log: Name,
 ) -> Vec<Done> {
     thread::scope(thread::scope_env(), rt, |scope| {
@@ -129,8 +135,7 @@ fn write_all<R: Threads + Wait + Clock + Abort + Sync>(
         });
         let mut writers = Vec::new(alloc);
         for text in [b'a', b'b', b'c', b'd'] {
-            let part = Part::new(rt, alloc, server);
-            let writer = scope.spawn(move || write(part, log, text));
+            let writer = scope.spawn(move || write(rt, alloc, server, log, text));
             writers
                 .push(writer.ok().expect(rt, "a thread"))
                 .ok()

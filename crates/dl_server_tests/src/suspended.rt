@@ -32,10 +32,10 @@ fn call<R: Wait + Abort>(part: Part<'_, R>, log: Name, answered: bool) -> Done {
 }
 
 // A caller waits for a block, which ends so. The log stays open if a third client has a part in it.
-fn play<R: Threads + Wait + Abort + Sync>(
-    rt: &R,
+fn play<'a, R: Threads + Wait + Abort + Sync>(
+    rt: &'a R,
     alloc: Global,
-    server: &Server<MemoryDisk>,
+    server: &'a Server<MemoryDisk>,
     end: End,
     stays: bool,
 ) {
