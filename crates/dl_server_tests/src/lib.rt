@@ -2,17 +2,7 @@
 #![tactic(auto)]
 
 #[cfg(test)]
-mod calls;
-#[cfg(test)]
-mod held;
-#[cfg(test)]
-mod notices;
-#[cfg(test)]
-mod periodic;
-#[cfg(test)]
 mod rig;
-#[cfg(test)]
-mod rings;
 #[cfg(test)]
 mod sent;
 #[cfg(test)]
