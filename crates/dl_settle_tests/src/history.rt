@@ -1,6 +1,6 @@
 // Which events a hub keeps, and what becomes of it when memory is refused.
 use crate::rig::{Act, Rig, rig_over};
-use dl_disk::MemoryDisk;
+use dl_disk::{Fuse, FuseDisk, MemoryDisk};
 use dl_trail::Record;
 use linked_list_allocator::LocalHeap;
 use std::alloc::Allocator;
@@ -45,6 +45,21 @@ fn a_read_of_a_file_is_no_event(rt: HostRuntime) -> Result<(), Fail> {
     assert_eq!(rt; rig.size(), 16);
     assert_eq!(rt; rig.count(), 1);
     assert_eq!(rt; rig.entries(), 1);
+    Ok(())
+}
+
+#[test]
+fn a_fault_is_kept_and_a_mended_fuse_is_no_event(rt: HostRuntime) -> Result<(), Fail> {
+    let alloc = rt.alloc();
+    let disk = FuseDisk::new(alloc, MemoryDisk::new(alloc), None, 0, Fuse::All);
+    let mut rig = rig_over(alloc, alloc, disk, Record::Kept)?;
+    assert_eq!(rt; rig.answer(Act::Open), "refused");
+    let passed = rig.passed();
+    rig.mend();
+    assert_eq!(rt; rig.entries(), 1);
+    assert_eq!(rt; rig.passed(), passed);
+    assert_eq!(rt; rig.answer(Act::Open), "opened");
+    assert_eq!(rt; rig.entries(), 2);
     Ok(())
 }
 
