@@ -15,6 +15,7 @@ mod folder;
 mod info;
 mod kept;
 mod repair;
+mod tail;
 mod watched;
 
 use anyhow::Result;
@@ -72,6 +73,7 @@ fn run_command(rt: &HostRuntime, name: &str, options: &ArgMatches<'_>) -> ExitCo
         "append" => append::run(rt, options),
         "dump" => dump::run(rt, options),
         "digest" => digest::run(rt, options),
+        "tail" => tail::run(rt, options),
         _ => run(rt, options),
     }
 }
@@ -111,6 +113,7 @@ fn with_work<'a>(alloc: Global, command: Command<'a>) -> Result<Command<'a>, All
     command
         .subcommand(repair::command(alloc)?)?
         .subcommand(dump::command(alloc)?)?
+        .subcommand(tail::command(alloc)?)?
         .subcommand(append::command(alloc)?)
 }
 
