@@ -2,19 +2,20 @@
 _dlog() {
     local word=${COMP_WORDS[COMP_CWORD]} command=${COMP_WORDS[1]} options=
     if [ "$COMP_CWORD" -eq 1 ]; then
-        mapfile -t COMPREPLY < <(compgen -W 'append dump check digest list info repair run help --help --version' -- "$word")
+        mapfile -t COMPREPLY < <(compgen -W 'append dump tail check digest list info repair run help --help --version' -- "$word")
         return
     fi
     case $command in
         append) options='--wrap --size --sync --sync-every --head --escaped --raw --help' ;;
         dump) options='--kind --hex --raw --from --most --places --help' ;;
+        tail) options='-n --last --follow --kind --hex --raw --help' ;;
         check) options='--json --digests --help' ;;
         list) options='--json --help' ;;
         digest) options='--help' ;;
         info) options='--kind --json --help' ;;
         repair) options='--kind --dry-run --keep-bad --yes --help' ;;
         run) options='--folder --blocks --help' ;;
-        help) options='append dump check digest list info repair run' ;;
+        help) options='append dump tail check digest list info repair run' ;;
     esac
     case $word in
         -*) mapfile -t COMPREPLY < <(compgen -W "$options" -- "$word") ;;
