@@ -2,3 +2,4 @@ pub mod Maps
 pub mod Acts
 pub mod FaultCounts
 pub mod Kept
+mod Owed

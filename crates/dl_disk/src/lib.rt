@@ -8,6 +8,7 @@ mod files;
 mod folder;
 mod fuse;
 mod memory;
+mod syncs;
 
 pub use disk::Disk;
 pub use fault::{Fault, ListFault, OpenFault};
@@ -15,3 +16,4 @@ pub use files::copy_from;
 pub use folder::FolderDisk;
 pub use fuse::{Fuse, FuseDisk};
 pub use memory::MemoryDisk;
+pub use syncs::Syncs;

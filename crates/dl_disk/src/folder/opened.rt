@@ -2,7 +2,7 @@
 ghost use Rattle.std.specs.Prelude.{◌≡◌, ◌≤◌, ◌+◌, ◌⊎◌, max, length, IfOk, OnOk, OnErr, IsTrue};
 
 use dl_types::FileName;
-use std::fs::{File, Files, OpenOptions, metadata};
+use std::fs::{File, Files, OpenOptions, symlink_metadata};
 use std::io;
 use std::io::ErrorKind;
 use std::os::unix::fs::FileExt;
@@ -87,9 +87,9 @@ impl Opened {
     }
 }
 
-/// The length in bytes of the file at a path, which has to be a plain file.
+/// The length in bytes of the file at a path, which has to be a plain file, and no link to one.
 pub(crate) fn length_at<R: Files>(rt: &R, path: Path<'_>) -> io::Result<u64> {
-    let found = metadata(rt, path)?;
+    let found = symlink_metadata(rt, path)?;
     if found.is_file() {
         Ok(found.len())
     } else {
