@@ -6,7 +6,7 @@ _dlog() {
         return
     fi
     case $command in
-        append) options='--wrap --size --sync --sync-every --head --escaped --raw --help' ;;
+        append) options='--wrap --size --sync --sync-every --unsynced-rolls --head --escaped --raw --help' ;;
         dump) options='--kind --hex --raw --from --most --places --help' ;;
         tail) options='-n --last --follow --kind --hex --raw --help' ;;
         check) options='--json --digests --help' ;;
@@ -14,7 +14,7 @@ _dlog() {
         digest) options='--help' ;;
         info) options='--kind --json --help' ;;
         repair) options='--kind --dry-run --keep-bad --yes --help' ;;
-        run) options='--folder --blocks --help' ;;
+        run) options='--folder --blocks --unsynced-rolls --help' ;;
         help) options='append dump tail check digest list info repair run' ;;
     esac
     case $word in

@@ -1,7 +1,7 @@
 // The folder of a command, and the logs in it.
 use crate::watched::WatchedDisk;
 use crate::{MISUSED, UNREAD, open_folder, tell};
-use clap::{Arg, ArgMatches, Command};
+use clap::{Arg, ArgAction, ArgMatches, Command};
 use dl_disk::{FolderDisk, ListFault, OpenFault};
 use dl_tool::{LogFiles, find_logs, logs_named};
 use dl_types::{Base, Kind, Name};
@@ -17,6 +17,16 @@ pub fn folder_word<'a>(alloc: Global) -> Arg<'a> {
         .value_name("FOLDER")
         .required(true)
         .help("The folder of the logs, which has to be there")
+}
+
+/// The word that has a wrap log go to its next file without a sync.
+pub fn rolls_word<'a>(alloc: Global) -> Arg<'a> {
+    Arg::new(alloc, "unsynced-rolls")
+        .long("unsynced-rolls")
+        .action(ArgAction::SetTrue)
+        .help(
+            "Let a wrap log in a folder begin its next file before the bytes of the last one are on the device, which takes less time; a power cut can then take all its items",
+        )
 }
 
 /// A command on a log of a folder, with the words for both.
@@ -54,7 +64,7 @@ pub fn opened(rt: &HostRuntime, options: &ArgMatches<'_>) -> Result<FolderOfLogs
     let Some(path) = options.get_str("folder") else {
         return Err(ExitCode::from(MISUSED));
     };
-    match open_folder(rt, path) {
+    match open_folder(rt, options, path) {
         Ok(disk) => match rt.clone() {
             Ok(own) => Ok(WatchedDisk::new(own, disk)),
             Err(error) => Err(tell(rt, error, UNREAD)),

@@ -22,7 +22,7 @@ use anyhow::Result;
 use clap::error::ErrorKind;
 use clap::{Arg, ArgMatches, Command, Error, value_parser};
 use dl_app::{ScriptFault, run_script};
-use dl_disk::{Disk, FolderDisk, MemoryDisk, OpenFault};
+use dl_disk::{Disk, FolderDisk, MemoryDisk, OpenFault, Syncs};
 use dl_hub::Hub;
 use std::alloc::{AllocError, Global};
 use std::fmt::Display;
@@ -134,7 +134,8 @@ fn run_words<'a>(alloc: Global) -> Result<Command<'a>, AllocError> {
     Command::new(alloc, "run")
         .about("Run a script from standard input and print its answers")
         .arg(folder)?
-        .arg(blocks)
+        .arg(blocks)?
+        .arg(folder::rolls_word(alloc))
 }
 
 // Runs the script on standard input over the disk that the options name.
@@ -145,7 +146,7 @@ fn run(rt: &HostRuntime, options: &ArgMatches<'_>) -> ExitCode {
     let Some(path) = options.get_str("folder") else {
         return run_over(rt, MemoryDisk::new(rt.alloc()), blocks);
     };
-    match open_folder(rt, path) {
+    match open_folder(rt, options, path) {
         Ok(disk) => run_over(rt, disk, blocks),
         Err(OpenFault::InUse) => tell(rt, "folder\nanother program uses it", FAILED),
         Err(OpenFault::Device) => tell(rt, "folder", FAILED),
@@ -154,9 +155,18 @@ fn run(rt: &HostRuntime, options: &ArgMatches<'_>) -> ExitCode {
 }
 
 // The disk over the folder at this path.
-fn open_folder(rt: &HostRuntime, path: &str) -> Result<FolderDisk<HostRuntime>, OpenFault> {
+fn open_folder(
+    rt: &HostRuntime,
+    options: &ArgMatches<'_>,
+    path: &str,
+) -> Result<FolderDisk<HostRuntime>, OpenFault> {
     let own = rt.clone().map_err(|_| OpenFault::OutOfMemory)?;
-    FolderDisk::open(own, path)
+    let syncs = if options.get_flag("unsynced-rolls") {
+        Syncs::OnlyWhenAsked
+    } else {
+        Syncs::AtRolls
+    };
+    FolderDisk::open_with(own, path, syncs)
 }
 
 // Runs the script on standard input over a disk.
