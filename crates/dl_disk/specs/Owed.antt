@@ -25,3 +25,7 @@ IsSettledBeside owed file = (other : FileName) → IsTrue (is_beside file other)
 -- what a sync failed at stays so
 abbrev pub KeepsLost : Owed → Owed → Type 0
 KeepsLost old new = (file : FileName) → IsTrue (is_lost old file) → IsTrue (is_lost new file)
+
+-- no file owes bytes that did not
+abbrev pub KeepsSettled : Owed → Owed → Type 0
+KeepsSettled old new = (file : FileName) → owes old file ≡ false → owes new file ≡ false

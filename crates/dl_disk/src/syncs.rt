@@ -6,8 +6,8 @@
 /// wrap log that rolled past such bytes may be left with none of its items.
 #[derive(Clone, Copy, Debug, Default, PartialEq, Eq)]
 pub enum Syncs {
-    /// At a sync, and before a file is put or renamed: of the other files under the base of a file that is put, and of a file
-    /// that gets another name. It costs a sync more for each roll of a wrap log.
+    /// At a sync, and before a file is put or gets another name: those of all files under its base but of one that is put,
+    /// since it goes. This costs a sync more for each roll of a wrap log.
     #[default]
     AtRolls,
     /// At a sync alone.

@@ -62,14 +62,15 @@ impl<R: Files<File = File> + AllocGlobal + Clone + Drop> Folder<R> {
     }
 
     /// Gives a file another name, in the place of what had it. Names that are owed from an earlier change are made durable
-    /// first, and so is what the file owes: its log is closed by that, and nobody could ask for a sync of it.
+    /// first, and so is what it and other files under its base owe: their log is closed by that, and nobody could ask for a
+    /// sync of them.
     pub(crate) fn rename(&mut self, from: FileName, to: FileName) -> io::Result<()>
         ensures from { IsClosed self.new.kept.files.entries from }
         ensures to { IsClosed self.new.kept.files.entries to }
-        ensures settled { OnOk result (self.old.syncs ≡ AtRolls → owes self.new.owed to ≡ false) }
+        ensures settled { OnOk result (self.old.syncs ≡ AtRolls → IsSettledBeside self.new.owed from × (owes self.new.owed from ≡ false)) }
         ensures lost { OnOk result (IsTrue (is_lost self.old.owed from) → IsTrue (is_lost self.new.owed to)) }
     {
-        let settled = self.settle(from);
+        let settled = self.settle_base(from);
         self.kept.close(from);
         self.kept.close(to);
         settled?;

@@ -2,7 +2,7 @@
 ghost use Rattle.std.specs.Prelude.{◌≡◌, ◌≤◌, ◌<◌, [], false, length, position, IsTrue, IfSome, IfNone, OnOk, OnErr};
 ghost use Rattle.indexmap.specs.IndexSet.{spare};
 ghost use Rattle.dl_types.specs.declared.file.FileName.{FileName};
-ghost use Rattle.dl_disk.specs.Owed.{IsSettledBeside, KeepsLost, is_beside, is_lost, owes};
+ghost use Rattle.dl_disk.specs.Owed.{IsSettledBeside, KeepsLost, KeepsSettled, is_beside, is_lost, owes};
 
 use dl_types::FileName;
 use indexmap::IndexSet;
@@ -65,7 +65,7 @@ impl Owed {
     pub(crate) fn settle(&mut self, file: FileName)
         ensures settled { owes self.new file ≡ false }
         ensures fewer { IsTrue (owes self.old file) → length self.new.files.keys < length self.old.files.keys }
-        ensures others { (other : FileName) → owes self.old other ≡ false → owes self.new other ≡ false }
+        ensures others { KeepsSettled self.old self.new }
         ensures lost { self.new.lost ≡ self.old.lost }
     {
         let _ = self.files.swap_remove(&file);
@@ -101,7 +101,7 @@ impl Owed {
     pub(crate) fn forget(&mut self, file: FileName)
         ensures settled { owes self.new file ≡ false }
         ensures found { is_lost self.new file ≡ false }
-        ensures others { (other : FileName) → owes self.old other ≡ false → owes self.new other ≡ false }
+        ensures others { KeepsSettled self.old self.new }
         ensures room { spare self.old.lost ≤ spare self.new.lost }
     {
         self.settle(file);
@@ -111,7 +111,7 @@ impl Owed {
     /// Notes that a file has another name, in the place of what had it.
     pub(crate) fn rename(&mut self, from: FileName, to: FileName)
         requires { 0 < spare self.old.lost }
-        ensures owes { owes self.old from ≡ false → owes self.new to ≡ false }
+        ensures others { KeepsSettled self.old self.new }
         ensures lost { IsTrue (is_lost self.old from) → IsTrue (is_lost self.new to) }
     {
         if from == to {

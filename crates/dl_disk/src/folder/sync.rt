@@ -4,7 +4,7 @@ ghost use Rattle.indexmap.specs.IndexSet.{spare};
 ghost use Rattle.dl_types.specs.declared.file.FileName.{FileName};
 ghost use Rattle.dl_disk.specs.declared.syncs.Syncs.TheVariants.{AtRolls};
 ghost use Rattle.dl_disk.specs.Folder.{IsClosed};
-ghost use Rattle.dl_disk.specs.Owed.{IsSettledBeside, KeepsLost, is_lost, owes};
+ghost use Rattle.dl_disk.specs.Owed.{IsSettledBeside, KeepsLost, KeepsSettled, is_lost, owes};
 
 use super::calls::{Folder, if_there};
 use super::opened::Access;
@@ -21,6 +21,7 @@ impl<R: Files<File = File> + AllocGlobal + Clone + Drop> Folder<R> {
         requires { 0 < spare self.old.owed.lost }
         ensures ok { OnOk result (owes self.new.owed file ≡ false) }
         ensures fewer { OnOk result (IsTrue (owes self.old.owed file) → length self.new.owed.files.keys < length self.old.owed.files.keys) }
+        ensures others { KeepsSettled self.old.owed self.new.owed }
         ensures lost { KeepsLost self.old.owed self.new.owed }
         ensures err { OnErr result (IsTrue (is_lost self.new.owed file)) }
         ensures rest { self.new ≡ record self.old { kept = self.new.kept; owed = self.new.owed } }
@@ -37,6 +38,7 @@ impl<R: Files<File = File> + AllocGlobal + Clone + Drop> Folder<R> {
     // Makes the bytes of a file durable, if it is there.
     fn settle_bytes(&mut self, file: FileName) -> io::Result<()>
         ensures ok { OnOk result (owes self.new.owed file ≡ false) }
+        ensures others { KeepsSettled self.old.owed self.new.owed }
         ensures fewer { OnOk result (IsTrue (owes self.old.owed file) → length self.new.owed.files.keys < length self.old.owed.files.keys) }
         ensures lost { KeepsLost self.old.owed self.new.owed }
         ensures rest { self.new ≡ record self.old { kept = self.new.kept; owed = self.new.owed } }
@@ -51,21 +53,10 @@ impl<R: Files<File = File> + AllocGlobal + Clone + Drop> Folder<R> {
         }
     }
 
-    /// Makes the bytes of a file durable that is about to be renamed, unless syncs are made only when they are asked for.
-    pub(crate) fn settle(&mut self, file: FileName) -> io::Result<()>
-        ensures ok { OnOk result (self.old.syncs ≡ AtRolls → owes self.new.owed file ≡ false) }
-        ensures lost { KeepsLost self.old.owed self.new.owed }
-        ensures rest { self.new ≡ record self.old { kept = self.new.kept; owed = self.new.owed } }
-    {
-        if self.syncs == Syncs::AtRolls && self.owed.owes(file) {
-            self.settle_bytes(file)?;
-        }
-        Ok(())
-    }
-
     /// Makes the bytes of the other files under a file's base durable, unless syncs are made only when they are asked for.
     pub(crate) fn settle_beside(&mut self, file: FileName) -> io::Result<()>
         ensures ok { OnOk result (self.old.syncs ≡ AtRolls → IsSettledBeside self.new.owed file) }
+        ensures lost { KeepsLost self.old.owed self.new.owed }
         ensures rest { self.new ≡ record self.old { kept = self.new.kept; owed = self.new.owed } }
     {
         if self.syncs == Syncs::OnlyWhenAsked {
@@ -73,6 +64,20 @@ impl<R: Files<File = File> + AllocGlobal + Clone + Drop> Folder<R> {
         }
         'settling: while let Some(other) = self.owed.beside(file) {
             self.settle_bytes(other)?;
+        }
+        Ok(())
+    }
+
+    /// Makes the bytes of all files under a file's base durable, unless syncs are made only when they are asked for.
+    pub(crate) fn settle_base(&mut self, file: FileName) -> io::Result<()>
+        ensures beside { OnOk result (self.old.syncs ≡ AtRolls → IsSettledBeside self.new.owed file) }
+        ensures own { OnOk result (self.old.syncs ≡ AtRolls → owes self.new.owed file ≡ false) }
+        ensures lost { KeepsLost self.old.owed self.new.owed }
+        ensures rest { self.new ≡ record self.old { kept = self.new.kept; owed = self.new.owed } }
+    {
+        self.settle_beside(file)?;
+        if self.syncs == Syncs::AtRolls && self.owed.owes(file) {
+            self.settle_bytes(file)?;
         }
         Ok(())
     }
