@@ -1,6 +1,5 @@
 -- Calls are read where they are written.
-use Rattle.std.proofs.Common.{◌≡◌, ℕ, List, [], ◌∷◌, ◌++◌, Option, Some, Result, Ok, refl, sym, subst}
-use Rattle.std.specs.Prelude.{⊤}
+use Rattle.std.proofs.Common.{◌≡◌, ℕ, List, [], ◌++◌, Ok, refl, sym, subst}
 use Rattle.dl_types.specs.declared.call.Call.{Call}
 use Rattle.dl_types.specs.declared.call.Call.TheVariants as call
 use Rattle.dl_types.specs.declared.name.Name.{Name}
@@ -8,7 +7,6 @@ use Rattle.dl_wire.specs.declared.op.Verb.{Verb}
 use Rattle.dl_wire.specs.declared.op.Verb.TheVariants as verb
 use Rattle.dl_wire.specs.Decode.{call_at}
 use Rattle.dl_wire.specs.Fits.{IsCall}
-use Rattle.dl_wire.specs.Reading.{Read, ◌>>=◌}
 use Rattle.dl_wire.specs.Request.{call_code, call_text}
 use Rattle.dl_wire.proofs.Items.{reads_item, reads_list}
 use Rattle.dl_wire.proofs.Names.{reads_base}

@@ -6,3 +6,4 @@ pub mod Places
 pub mod Opens
 pub mod Calls
 pub mod Requests
+pub mod Frames

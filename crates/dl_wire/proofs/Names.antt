@@ -1,5 +1,5 @@
 -- Names and bases are read where they are written.
-use Rattle.std.proofs.Common.{◌≡◌, ◌≤◌, ◌<◌, ◌^◌, ◌&&◌, ℕ, List, [], ◌∷◌, ◌++◌, Bool, true, false, cond, ltb, leb, length, take, drop, Result, Ok, Err, refl, sym, ap, subst, ◌∙◌, arith, inl, inr}
+use Rattle.std.proofs.Common.{◌≡◌, ◌≤◌, ◌<◌, ◌^◌, ◌&&◌, ℕ, List, [], ◌∷◌, ◌++◌, true, false, cond, ltb, leb, length, take, drop, Ok, Err, refl, sym, ap, subst, ◌∙◌, arith, inl, inr}
 use Rattle.std.specs.List.{list_all}
 use Rattle.std.proofs.lemmas.Bool.{and_parts, and_from, ltb-true, leb-true, lt-ltb, le-leb, ltb-false, le-ltb, cases_Bool}
 use Rattle.std.proofs.lemmas.List.{take_at, drop_at, take-append-drop, length-append, length-take}
@@ -12,8 +12,8 @@ use Rattle.dl_types.specs.Name.{is_name_byte, IsNameText, name_of, base_from, na
 use Rattle.dl_types.proofs.Texts.{unpadded_padded}
 use Rattle.dl_wire.specs.Fits.{IsName}
 use Rattle.dl_wire.specs.Parts.{short_text}
-use Rattle.dl_wire.specs.Reading.{Read, ◌>>=◌, short_at, is_name_text, name_at, base_at}
-use Rattle.dl_wire.proofs.Parts.{IsBytes, IsBytes-rest, IsBytes-drop, guard_ok, wanted_ok, ok_is, done, Takes, TakesAs, Takes-cons, Reads, first_takes}
+use Rattle.dl_wire.specs.Reading.{short_at, is_name_text, name_at, base_at}
+use Rattle.dl_wire.proofs.Parts.{IsBytes, IsBytes-rest, IsBytes-drop, guard_ok, wanted_ok, ok_is, Takes, TakesAs, Reads, first_takes}
 
 pub name_text_is : (text : List ℕ) → is_name_text text ≡ true → IsNameText text
 name_text_is text e =

@@ -1,6 +1,5 @@
 -- The options of an open are read where they are written.
-use Rattle.std.proofs.Common.{◌≡◌, ℕ, List, [], ◌∷◌, ◌++◌, Bool, Option, Result, Ok, refl, subst, ◌∙◌}
-use Rattle.std.specs.Prelude.{IfSome, ⊤}
+use Rattle.std.proofs.Common.{◌≡◌, ℕ, List, [], ◌∷◌, ◌++◌, Bool, Option, Ok, subst, ◌∙◌}
 use Rattle.dl_types.specs.declared.name.Base.{Base}
 use Rattle.dl_types.specs.declared.size.Kind.{Kind}
 use Rattle.dl_types.specs.declared.size.Link.{Link}
@@ -9,7 +8,7 @@ use Rattle.dl_types.specs.declared.size.OpenArgs.{OpenArgs}
 use Rattle.dl_types.specs.declared.size.Repair.{Repair}
 use Rattle.dl_types.specs.declared.size.Size.{Size}
 use Rattle.dl_types.specs.Name.{base_text}
-use Rattle.dl_wire.specs.Decode.{bools, kinds, modes, repairs, links, open_at}
+use Rattle.dl_wire.specs.Decode.{bools, modes, repairs, links, open_at}
 use Rattle.dl_wire.specs.Fits.{IsOpen}
 use Rattle.dl_wire.specs.Parts.{short_text, bytes_text, option_text, bool_code, kind_code, mode_code, repair_code, link_code, size_text}
 use Rattle.dl_wire.specs.Reading.{Read, ◌>>=◌, choice_at, base_at, item_at, option_at, size_at}

@@ -1,7 +1,7 @@
 -- Choices, sizes and places are read where they are written.
-use Rattle.std.proofs.Common.{◌≡◌, ◌<◌, ◌^◌, ℕ, ℤ, zero, suc, List, [], ◌∷◌, ◌++◌, Bool, true, false, Option, Some, None, Result, Ok, Err, refl, sym, ap, subst, ◌∙◌, append_assoc, arith}
-use Rattle.std.specs.Prelude.{IfSome, ⊤, FitsSigned}
-use Rattle.std.specs.Int.{w32, w64, to_be_bytes, cast_signed, cast_unsigned}
+use Rattle.std.proofs.Common.{◌≡◌, ◌<◌, ◌^◌, ℕ, ℤ, zero, suc, List, [], ◌∷◌, ◌++◌, Bool, true, false, Some, Ok, refl, sym, ap, subst, ◌∙◌, append_assoc, arith}
+use Rattle.std.specs.Prelude.{⊤, FitsSigned}
+use Rattle.std.specs.Int.{w32, w64, cast_signed, cast_unsigned}
 use Rattle.std.specs.List.{slice_get}
 use Rattle.std.proofs.lemmas.Int.{of_z-to_z, to_z-of_z}
 use Rattle.std.proofs.Math.Facts.{Fits-of_z, Fits-of_lt, sfits_to_z}
@@ -23,7 +23,7 @@ use Rattle.dl_wire.specs.Decode.{bools, kinds, modes, repairs, links, position_a
 use Rattle.dl_wire.specs.Fits.{IsSize, IsPlace}
 use Rattle.dl_wire.specs.Parts.{i32_text, bool_code, kind_code, mode_code, repair_code, link_code, u32_text, u64_text, size_text, position_text, place_text}
 use Rattle.dl_wire.specs.Reading.{Read, ◌>>=◌, number_at, i32_at, choice_at, size_at}
-use Rattle.dl_wire.proofs.Parts.{IsBytes, IsBytes-rest, ok_is, made_of, made_of_two, Takes, Takes-then, Takes-cons, TakesAs, Reads, first_takes, one_takes, one_again, two_takes, two_again, reads_u32, reads_u64, reads_choice, reads_option}
+use Rattle.dl_wire.proofs.Parts.{IsBytes, IsBytes-rest, ok_is, made_of, made_of_two, Takes-then, Takes-cons, TakesAs, Reads, first_takes, one_takes, one_again, two_again, reads_u32, reads_u64, reads_choice}
 
 -- ---- choices
 

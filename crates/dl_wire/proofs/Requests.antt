@@ -1,5 +1,5 @@
 -- Requests are read where they are written, each from its own text.
-use Rattle.std.proofs.Common.{◌≡◌, ◌<◌, ◌^◌, ℕ, List, [], ◌∷◌, ◌++◌, Bool, true, cond, eqb, length, Option, Some, Result, Ok, Err, refl, sym, ap, subst, ◌∙◌, arith}
+use Rattle.std.proofs.Common.{◌≡◌, ◌<◌, ◌^◌, ℕ, List, [], ◌∷◌, ◌++◌, cond, eqb, length, Some, Result, Ok, Err, refl, sym, ap, subst, ◌∙◌}
 use Rattle.std.specs.Prelude.{⊤}
 use Rattle.std.specs.List.{slice_get}
 use Rattle.std.proofs.lemmas.Bool.{eqb-true}
@@ -22,9 +22,9 @@ use Rattle.dl_wire.specs.Fits.{IsEvent, IsAsk, IsRequest}
 use Rattle.dl_wire.specs.Parts.{u16_text, u32_text, short_text}
 use Rattle.dl_wire.specs.Reading.{Read, ◌>>=◌, choice_at, name_at}
 use Rattle.dl_wire.specs.Request.{call_code, call_text, ask_text, request_text}
-use Rattle.dl_wire.proofs.Calls.{verb_code, verb_of, code_of_verb, IsOf, call_takes, call_again}
+use Rattle.dl_wire.proofs.Calls.{verb_code, verb_of, code_of_verb, call_takes, call_again}
 use Rattle.dl_wire.proofs.Names.{reads_name}
-use Rattle.dl_wire.proofs.Parts.{IsBytes, bind_ok, wanted_ok, done, ok_is, made_of, Takes, Takes-then, Takes-cons, TakesAs, Reads, first_then, first_again, one_takes, one_again, reads_u16, reads_u32, reads_choice}
+use Rattle.dl_wire.proofs.Parts.{IsBytes, bind_ok, wanted_ok, done, ok_is, made_of, Takes, Takes-then, TakesAs, Reads, first_then, first_again, one_takes, one_again, reads_u16, reads_u32, reads_choice}
 
 -- ---- what is asked for, by its number
 

@@ -3,3 +3,4 @@ pub mod Request
 pub mod Fits
 pub mod Reading
 pub mod Decode
+pub mod Answer

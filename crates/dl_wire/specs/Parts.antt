@@ -17,13 +17,13 @@ use Rattle.dl_types.specs.declared.size.Size.{Size}
 use Rattle.dl_types.specs.declared.size.Size.TheVariants as size
 
 -- numbers of two, four and eight bytes
-abbrev pub u16_text : ℕ → List ℕ
+unfoldable pub u16_text : ℕ → List ℕ
 u16_text n = to_be_bytes w16 n
 
-abbrev pub u32_text : ℕ → List ℕ
+unfoldable pub u32_text : ℕ → List ℕ
 u32_text n = to_be_bytes w32 n
 
-abbrev pub u64_text : ℕ → List ℕ
+unfoldable pub u64_text : ℕ → List ℕ
 u64_text n = to_be_bytes w64 n
 
 -- a signed number of four bytes, in two's complement

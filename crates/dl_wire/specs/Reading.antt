@@ -1,14 +1,11 @@
 -- Parts as they are read from left to right: a value and the bytes after it, or how many bytes are left at the first part
 -- that is wrong.
 use Rattle.std.specs.Prelude.{◌≡◌, ◌&&◌, ℕ, ℤ, zero, suc, List, [], ◌∷◌, length, take, drop, Bool, Option, Some, None, Result, Ok, Err, nat_lt, nat_le, if◌then◌else◌}
-use Rattle.std.specs.Int.{Width, w16, w32, w64, byte_len, from_be_bytes, cast_signed}
+use Rattle.std.specs.Int.{Width, w32, w64, byte_len, from_be_bytes, cast_signed}
 use Rattle.std.specs.List.{slice_get, list_all}
 use Rattle.dl_types.specs.declared.limits.TheConstants.{NAME_LIMIT, ITEM_LIMIT}
 use Rattle.dl_types.specs.declared.name.Base.{Base}
 use Rattle.dl_types.specs.declared.name.Name.{Name}
-use Rattle.dl_types.specs.declared.place.Continuation.{Continuation}
-use Rattle.dl_types.specs.declared.place.Place.{Place}
-use Rattle.dl_types.specs.declared.place.Place.TheVariants.{Start, At}
 use Rattle.dl_types.specs.declared.size.Size.{Size}
 use Rattle.dl_types.specs.declared.size.Size.TheVariants as size
 use Rattle.dl_types.specs.Name.{is_name_byte, name_of, base_from}

@@ -4,7 +4,6 @@ use Rattle.dl_types.specs.declared.call.Call.{Call}
 use Rattle.dl_types.specs.declared.call.Call.TheVariants as call
 use Rattle.dl_types.specs.declared.event.Event.{Event}
 use Rattle.dl_types.specs.declared.event.Event.TheVariants as event
-use Rattle.dl_types.specs.declared.name.Name.{Name}
 use Rattle.dl_types.specs.declared.size.OpenArgs.{OpenArgs}
 use Rattle.dl_types.specs.Name.{base_text, name_text}
 use Rattle.dl_wire.specs.declared.request.Ask.{Ask}

@@ -14,7 +14,9 @@ use crate::reading::{
     some_size_at, u16_at, u32_at, u64_at,
 };
 use crate::request::{Ask, Request};
-use dl_types::{Call, ClientId, Continuation, Event, Kind, Link, Mode, Name, OpenArgs, Place, Repair};
+use dl_types::{
+    Call, ClientId, Continuation, Event, Kind, Link, Mode, Name, OpenArgs, Place, Repair,
+};
 use std::alloc::Allocator;
 
 /// Reads the request that all of a text says.
@@ -182,10 +184,7 @@ fn call_at<A: Allocator + Copy>(
 
 // The options of an open.
 #[tactic(auto, unfolding(crate::specs::Decode::open_at))]
-fn open_at<A: Allocator + Copy>(
-    alloc: A,
-    bytes: &[u8],
-) -> Result<(OpenArgs<A>, &[u8]), ReadFault>
+fn open_at<A: Allocator + Copy>(alloc: A, bytes: &[u8]) -> Result<(OpenArgs<A>, &[u8]), ReadFault>
     ensures { Gives (λ x. (x.0, x.1.now)) result (open_at bytes.now) }
 {
     let (kind, rest) = choice_at(&[Kind::Halt, Kind::Wrap], bytes)?;

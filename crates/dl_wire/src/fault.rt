@@ -1,6 +1,7 @@
 // Why bytes are not read.
 ghost use Rattle.std.specs.Prelude.{◌≡◌};
 ghost use Rattle.dl_wire.specs.declared.fault.ReadFault.TheVariants.{OutOfMemory};
+ghost use Rattle.dl_wire.specs.declared.fault.EncodeFault.TheVariants as encode;
 
 use std::alloc::{AllocError, AllocFailed};
 use thiserror::Error;
@@ -37,5 +38,31 @@ impl<T: Drop> From<AllocFailed<T>> for ReadFault {
 
     fn from(_refused: AllocFailed<T>) -> ReadFault {
         ReadFault::OutOfMemory
+    }
+}
+
+/// Why a frame is not written.
+#[derive(Clone, Copy, Debug, PartialEq, Eq, Error)]
+pub enum EncodeFault {
+    /// A number of its parts, or its length, does not fit four bytes.
+    #[error("too long for a frame")]
+    TooLong,
+    #[error("out of memory")]
+    OutOfMemory,
+}
+
+impl From<AllocError> for EncodeFault {
+    ghost from_gives = { λ _ e. e ≡ encode.OutOfMemory };
+
+    fn from(_refused: AllocError) -> EncodeFault {
+        EncodeFault::OutOfMemory
+    }
+}
+
+impl<T: Drop> From<AllocFailed<T>> for EncodeFault {
+    ghost from_gives = { λ _ e. e ≡ encode.OutOfMemory };
+
+    fn from(_refused: AllocFailed<T>) -> EncodeFault {
+        EncodeFault::OutOfMemory
     }
 }

@@ -56,10 +56,7 @@ pub fn i32_at(bytes: &[u8]) -> Result<(i32, &[u8]), ReadFault>
 
 /// One of some choices, by its place among them.
 #[tactic(auto, unfolding(crate::specs::Reading::choice_at))]
-pub fn choice_at<'a, T: Copy>(
-    choices: &[T],
-    bytes: &'a [u8],
-) -> Result<(T, &'a [u8]), ReadFault>
+pub fn choice_at<'a, T: Copy>(choices: &[T], bytes: &'a [u8]) -> Result<(T, &'a [u8]), ReadFault>
     ensures { Gives (λ x. (x.0, x.1.now)) result (choice_at choices.now bytes.now) }
 {
     match bytes {
@@ -187,10 +184,7 @@ fn items_at<A: Allocator + Copy>(
 
 /// The items of a call, of which there is at least one.
 #[tactic(auto, unfolding(crate::specs::Reading::list_at))]
-pub fn list_at<A: Allocator + Copy>(
-    alloc: A,
-    bytes: &[u8],
-) -> Result<(Items<A>, &[u8]), ReadFault>
+pub fn list_at<A: Allocator + Copy>(alloc: A, bytes: &[u8]) -> Result<(Items<A>, &[u8]), ReadFault>
     ensures { Gives (λ x. (x.0, x.1.now)) result (list_at bytes.now) }
 {
     let (count, rest) = u32_at(bytes)?;

@@ -1,5 +1,5 @@
 -- What is read is written so, and what is written so is read.
-use Rattle.std.proofs.Common.{◌≡◌, ◌⊎◌, inl, inr, Ok, Err, sym, ap, ◌∙◌, arith}
+use Rattle.std.proofs.Common.{inl, sym, ap, ◌∙◌, arith}
 use Rattle.dl_wire.specs.Decode.{whole_at}
 use Rattle.dl_wire.proofs.Requests.{whole_takes, whole_again}
 use Rattle.dl_wire.proofs.decoding.decode.Goals as goal

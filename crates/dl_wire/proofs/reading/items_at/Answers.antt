@@ -1,4 +1,3 @@
-use Rattle.std.proofs.Common.{◌≡◌, ◌++◌, ◌∷◌, []}
 use Rattle.std.proofs.lemmas.Result.{err_from_is_err_and}
 use Rattle.dl_wire.specs.Reading.{items_at}
 use Rattle.dl_wire.proofs.Loop.{goes_on, ends, is_done}
