@@ -1,0 +1,88 @@
+-- A stream of frames, and what is answered.
+use Rattle.std.specs.Prelude.{◌≡◌, ◌==◌, ◌⊎◌, ℕ, List, [], ◌++◌, Option, Err, ⊤, replicate, if◌then◌else◌}
+use Rattle.std.specs.Io.KnownBytes.{Appends}
+use Rattle.dl_types.specs.declared.event.Event.TheVariants as event
+use Rattle.dl_disk.specs.Disk.{DiskState}
+use Rattle.dl_hub.specs.View.{HubView}
+use Rattle.dl_wire.specs.declared.limits.TheConstants.{VERSION, FRAME_LIMIT, SUSPENDED_LIMIT}
+use Rattle.dl_wire.specs.declared.request.Ask.{Ask}
+use Rattle.dl_wire.specs.declared.request.Ask.TheVariants as ask
+use Rattle.dl_wire.specs.declared.request.Request.{Request}
+use Rattle.dl_wire.specs.Answer.{bad_text, welcome_text, frame_text}
+use Rattle.dl_wire.specs.Decode.{request_in}
+use Rattle.dl_wire.specs.Fits.{IsRequest}
+use Rattle.dl_wire.specs.Request.{request_text}
+use Rattle.dl_serve.specs.declared.stream.Ended.{Ended}
+use Rattle.dl_serve.specs.declared.stream.Ended.TheVariants as ended
+use Rattle.dl_serve.specs.declared.stream.Stop.{Stop}
+use Rattle.dl_serve.specs.declared.stream.Stop.TheVariants as stop
+use Rattle.dl_serve.specs.Asked.{Stage, Chain, IsAsked}
+use Rattle.dl_serve.specs.Frames.{IsLong, IsPartial, HasFrames, tag_of}
+
+-- the beginning: no call waits, and no client is known
+abbrev pub first_stage : {D Z : Type 0} → HubView D → Stage D Z
+first_stage hub = record { hub = hub; waiting = []; clients = [] }
+
+-- the frame that answers a hello. A tag of 0 asks for none
+abbrev pub welcome_frame : ℕ → List ℕ
+welcome_frame tag = if tag == 0 then [] else frame_text (welcome_text tag VERSION FRAME_LIMIT SUSPENDED_LIMIT)
+
+module _ {D Z : Type 0} (state : D → DiskState) where
+  -- all that waits is written: blocks one after another, and one more, whose turn is the answer
+  abbrev pub IsAllFlushed : ℕ → Stage D Z → Stage D Z → List ℕ → Type 0
+  IsAllFlushed tag old new frames =
+      (n : ℕ) × (mid : Stage D Z) × (first : List ℕ) × (last : List ℕ) × Chain (IsAsked state 0) (replicate n event.Flush) old mid first × IsAsked state tag event.Flush mid new last × (frames ≡ first ++ last)
+
+  -- what a request does
+  abbrev pub IsDone : ℕ → Ask Z → Stage D Z → Stage D Z → List ℕ → Type 0
+  IsDone tag (ask.Hello version) old new frames = (new ≡ old) × (frames ≡ welcome_frame tag)
+  IsDone tag (ask.Event e) old new frames = IsAsked state tag e old new frames
+  IsDone tag ask.All old new frames = IsAllFlushed tag old new frames
+
+  -- the text of a request, which is done; or a text that is none, which is told by the place of its first wrong part
+  abbrev pub IsServed : List ℕ → Stage D Z → Stage D Z → List ℕ → Type 0
+  IsServed text old new frames =
+      ((r : Request Z) × IsRequest r × (text ≡ request_text r) × IsDone r.tag r.ask old new frames)
+      ⊎ ((place : ℕ) × (request_in {Z = Z} text ≡ Err place) × (new ≡ old) × (frames ≡ frame_text (bad_text (tag_of text) place)))
+
+  -- the end: the clients leave, after which none is known, and all that waits is written
+  abbrev pub IsLeft : Stage D Z → Stage D Z → List ℕ → Type 0
+  IsLeft old new frames =
+      (mid : Stage D Z) × (first : List ℕ) × (last : List ℕ) × Chain (λ client. IsAsked state 0 (event.Exit client)) old.clients (record old { clients = [] }) mid first × IsAllFlushed 0 mid new last × (frames ≡ first ++ last)
+
+-- what stands where the frames end: less than one, or the beginning of one that is too long, which is told
+abbrev pub IsRest : Ended → List ℕ → List ℕ → Type 0
+IsRest ended.Input rest told = IsPartial rest × (told ≡ [])
+IsRest ended.LongFrame rest told = IsLong rest × (told ≡ frame_text (bad_text 0 0))
+
+-- where the serving of some bytes stopped
+abbrev pub IsStopped : Stop → List ℕ → Type 0
+IsStopped stop.Partial rest = IsPartial rest
+IsStopped stop.Long rest = IsLong rest
+IsStopped stop.Full rest = ⊤
+
+-- the frames of a stream were served, and their answers are written. What is to be written now tells how it ended
+pub record IsTaken {D Z : Type 0} (state : D → DiskState) (how : Ended) (stream : Option (List ℕ)) (old new : Stage D Z) (written after : Option (List ℕ)) (told : List ℕ) : Type 0 where
+  pub texts : List (List ℕ)
+  pub rest : List ℕ
+  pub answers : List ℕ
+  pub framed : HasFrames stream texts rest
+  pub served : Chain (IsServed state) texts old new answers
+  pub ended : IsRest how rest told
+  pub sent : Appends written after answers
+
+-- a stream was served: each of its frames in order, and then its end. What was written are the answers in this order
+pub record Serves {D : Type 0} (state : D → DiskState) (Z : Type 0) (how : Ended) (stream : Option (List ℕ)) (old new : HubView D) (written after : Option (List ℕ)) : Type 0 where
+  pub texts : List (List ℕ)
+  pub rest : List ℕ
+  pub mid : Stage D Z
+  pub last : Stage D Z
+  pub answers : List ℕ
+  pub told : List ℕ
+  pub farewell : List ℕ
+  pub framed : HasFrames stream texts rest
+  pub served : Chain (IsServed state) texts (first_stage old) mid answers
+  pub ended : IsRest how rest told
+  pub left : IsLeft state mid last farewell
+  pub hub : last.hub ≡ new
+  pub whole : Appends written after (answers ++ (told ++ farewell))

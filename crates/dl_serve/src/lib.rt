@@ -1,0 +1,14 @@
+//! A hub for a program in any language: frames of requests are read from a stream, and answers are written to another.
+#![tactic(auto)]
+
+mod asked;
+mod event;
+mod fault;
+mod frames;
+mod leave;
+mod session;
+mod stream;
+mod waiting;
+
+pub use fault::ServeFault;
+pub use stream::{Ended, serve};

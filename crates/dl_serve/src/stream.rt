@@ -1,0 +1,245 @@
+// A stream from its first frame to its last.
+ghost use Rattle.std.specs.Prelude.{◌≡◌, ◌++◌, ◌≤◌, ℕ, List, [], false, OnOk, IfOk, drop, length};
+ghost use Rattle.std.specs.List.{flat_map};
+ghost use Rattle.std.specs.Io.KnownBytes.{Appends, Consumes, IsAtEnd};
+ghost use Rattle.dl_wire.specs.declared.limits.TheConstants.{FRAME_LIMIT};
+ghost use Rattle.dl_wire.specs.Answer.{frame_text};
+ghost use Rattle.dl_serve.specs.Asked.{Chain};
+ghost use Rattle.dl_serve.specs.Serve.{welcome_frame, IsDone, IsServed, IsStopped, IsTaken, Serves};
+ghost use Rattle.dl_serve.specs.Session.{stage_of};
+
+use crate::fault::ServeFault;
+use crate::frames::{Front, LENGTH_BYTES, front_of, tag_of};
+use crate::session::Session;
+use dl_disk::Disk;
+use dl_hub::Hub;
+use dl_wire::{Ask, DecodeFault, Request, decode, push_bad, push_welcome};
+use std::alloc::Allocator;
+use std::io::{self, Read, Write};
+
+/// The bytes that are read at a time.
+const READ_BYTES: usize = 65_536;
+
+/// How many bytes of answers wait at most before they are written, but for the last of them.
+const FRAMES_BYTES: usize = 1_048_576;
+
+/// How a stream ended that was served.
+#[derive(Clone, Copy, Debug, PartialEq, Eq)]
+pub enum Ended {
+    /// It has no more frames. What stood after the last of them, if anything did, was less than a frame.
+    Input,
+    /// A frame began that is longer than any may be.
+    LongFrame,
+}
+
+/// Where the serving of frames stopped.
+#[derive(Clone, Copy)]
+pub enum Stop {
+    /// At less than a frame.
+    Partial,
+    /// At a frame that is too long.
+    Long,
+    /// At any place, since the answers are to be written.
+    Full,
+}
+
+/// Serves a hub to the program that writes frames of requests to `input` and reads frames of answers from `output`, until the
+/// input ends or a frame is too long. Then the clients leave, and what waits is written.
+///
+/// Requests are done in their order, whatever pieces the input comes in. Answers are written once no whole frame is left of
+/// what was read, or if they have more than a mebibyte, and nothing is read meanwhile. If the input or the output
+/// fails, the clients leave all the same.
+pub fn serve<R: Read, W: Write, D: Disk + Drop, A: Allocator + Copy>(
+    alloc: A,
+    input: &mut R,
+    output: &mut W,
+    hub: &mut Hub<D, A>,
+) -> Result<Ended, ServeFault>
+    ensures { IfOk result (λ how. Serves D.state A how (R.remaining input.old) hub.old hub.new (W.contents output.old) (W.contents output.new)) }
+{
+    let mut session = Session::new(alloc);
+    match session.serve_input(input, output, hub) {
+        Ok(how) => {
+            session.leave(hub)?;
+            session.send(output)?;
+            output.flush().map_err(|_| ServeFault::Write)?;
+            Ok(how)
+        }
+        Err(fault) => {
+            session.leave(hub)?;
+            Err(fault)
+        }
+    }
+}
+
+impl<A: Allocator + Copy> Session<A> {
+    // Serves the frames that the input has left, and tells of one that is too long.
+    fn serve_input<R: Read, W: Write, D: Disk + Drop>(
+        &mut self,
+        input: &mut R,
+        output: &mut W,
+        hub: &mut Hub<D, A>,
+    ) -> Result<Ended, ServeFault>
+        requires { self.old.frames.items ≡ [] }
+        ensures { IfOk result (λ how. IsTaken D.state how (R.remaining input.old) (stage_of hub.old self.old) (stage_of hub.new self.new) (W.contents output.old) (W.contents output.new) self.new.frames.items) }
+    {
+        let mut unread = Vec::new(self.alloc);
+        let mut piece = vec![in self.alloc; 0; READ_BYTES]?;
+        for _ in 0..u64::MAX {
+            match self.serve_unread(&mut unread, output, hub)? {
+                Stop::Full => {}
+                Stop::Long => {
+                    push_bad(&mut self.frames, 0, 0)?;
+                    return Ok(Ended::LongFrame);
+                }
+                Stop::Partial => {
+                    if !take_in(input, piece.as_mut_slice(), &mut unread)? {
+                        return Ok(Ended::Input);
+                    }
+                }
+            }
+        }
+        Err(ServeFault::Read)
+    }
+
+    // Serves the whole frames at the front of what was not served, writes the answers, and keeps what follows.
+    fn serve_unread<W: Write, D: Disk + Drop>(
+        &mut self,
+        unread: &mut Vec<u8, A>,
+        output: &mut W,
+        hub: &mut Hub<D, A>,
+    ) -> Result<Stop, ServeFault>
+        requires { self.old.frames.items ≡ [] }
+        ensures served { IfOk result (λ stop. (texts : List (List ℕ)) × (frames : List ℕ) × (unread.old.items ≡ flat_map frame_text texts ++ unread.new.items)
+            × Chain (IsServed D.state) texts (stage_of hub.old self.old) (stage_of hub.new self.new) frames × Appends (W.contents output.old) (W.contents output.new) frames
+            × IsStopped stop unread.new.items) }
+        ensures sent { OnOk result (self.new.frames.items ≡ []) }
+    {
+        let (at, stop) = self.serve_frames(unread.as_slice(), hub)?;
+        self.send(output)?;
+        drop(unread.drain(..at));
+        Ok(stop)
+    }
+
+    // Serves the whole frames at the front of some bytes, and tells how many bytes they have.
+    fn serve_frames<D: Disk + Drop>(
+        &mut self,
+        bytes: &[u8],
+        hub: &mut Hub<D, A>,
+    ) -> Result<(usize, Stop), ServeFault>
+        ensures served { IfOk result (λ r. (texts : List (List ℕ)) × (frames : List ℕ) × (bytes.now ≡ flat_map frame_text texts ++ drop r.0 bytes.now)
+            × Chain (IsServed D.state) texts (stage_of hub.old self.old) (stage_of hub.new self.new) frames × (self.new.frames.items ≡ self.old.frames.items ++ frames)
+            × IsStopped r.1 (drop r.0 bytes.now)) }
+        ensures within { IfOk result (λ r. r.0 ≤ length bytes.now) }
+    {
+        let mut at = 0;
+        for _ in 0..=bytes.len() {
+            let (_, rest) = bytes.split_at(at);
+            match front_of(rest) {
+                Front::Whole(text) => {
+                    self.serve_text(text, hub)?;
+                    at += LENGTH_BYTES + text.len();
+                }
+                Front::Partial => return Ok((at, Stop::Partial)),
+                Front::Long => return Ok((at, Stop::Long)),
+            }
+            if self.frames.len() > FRAMES_BYTES {
+                return Ok((at, Stop::Full));
+            }
+        }
+        Ok((at, Stop::Full))
+    }
+
+    // Does the request of a text, or tells where the text is wrong.
+    fn serve_text<D: Disk + Drop>(
+        &mut self,
+        text: &[u8],
+        hub: &mut Hub<D, A>,
+    ) -> Result<(), ServeFault>
+        requires { length text.now ≤ FRAME_LIMIT }
+        ensures { OnOk result ((frames : List ℕ) × IsServed D.state text.now (stage_of hub.old self.old) (stage_of hub.new self.new) frames × (self.new.frames.items ≡ self.old.frames.items ++ frames)) }
+    {
+        match decode(self.alloc, text) {
+            Ok(request) => self.serve_request(request, hub),
+            Err(DecodeFault::At(place)) => {
+                push_bad(&mut self.frames, tag_of(text), place as u32)?;
+                Ok(())
+            }
+            Err(DecodeFault::OutOfMemory) => Err(ServeFault::OutOfMemory),
+        }
+    }
+
+    // Does a request.
+    fn serve_request<D: Disk + Drop>(
+        &mut self,
+        request: Request<A>,
+        hub: &mut Hub<D, A>,
+    ) -> Result<(), ServeFault>
+        ensures { OnOk result ((frames : List ℕ) × IsDone D.state request.tag request.ask (stage_of hub.old self.old) (stage_of hub.new self.new) frames × (self.new.frames.items ≡ self.old.frames.items ++ frames)) }
+    {
+        let Request { tag, ask } = request;
+        match ask {
+            Ask::Hello(_) => {
+                self.welcome(tag)?;
+                Ok(())
+            }
+            Ask::Event(event) => {
+                self.ask(tag, event, hub)?;
+                Ok(())
+            }
+            Ask::All => self.flush_all(tag, hub),
+        }
+    }
+
+    // Answers a hello, unless it asks for no answer.
+    fn welcome(&mut self, tag: u32) -> Result<(), ServeFault>
+        ensures frames { OnOk result (self.new.frames.items ≡ self.old.frames.items ++ welcome_frame tag) }
+        ensures waiting { self.new.waiting.items ≡ self.old.waiting.items }
+        ensures clients { self.new.clients.items ≡ self.old.clients.items }
+    {
+        if tag != 0 {
+            push_welcome(&mut self.frames, tag)?;
+        }
+        Ok(())
+    }
+
+    // Writes the frames that wait to be written.
+    fn send<W: Write>(&mut self, output: &mut W) -> Result<(), ServeFault>
+        ensures written { OnOk result (Appends (W.contents output.old) (W.contents output.new) self.old.frames.items) }
+        ensures sent { OnOk result (self.new.frames.items ≡ []) }
+        ensures waiting { self.new.waiting.items ≡ self.old.waiting.items }
+        ensures clients { self.new.clients.items ≡ self.old.clients.items }
+    {
+        output
+            .write_all(self.frames.as_slice())
+            .map_err(|_| ServeFault::Write)?;
+        self.frames.clear();
+        Ok(())
+    }
+}
+
+// Adds what the input has ready to the bytes that were not served. Returns whether there may be more.
+fn take_in<R: Read, A: Allocator>(
+    input: &mut R,
+    piece: &mut [u8],
+    unread: &mut Vec<u8, A>,
+) -> Result<bool, ServeFault>
+    ensures taken { IfOk result (λ more. (bytes : List ℕ) × (unread.new.items ≡ unread.old.items ++ bytes) × Consumes (R.remaining input.old) (R.remaining input.new) bytes
+        × (more ≡ false → (bytes ≡ []) × IsAtEnd (R.remaining input.new))) }
+{
+    if piece.is_empty() {
+        return Err(ServeFault::Read);
+    }
+    match input.read(piece) {
+        Ok(0) => Ok(false),
+        Ok(count) => {
+            unread.extend_from_slice(&piece[..count])?;
+            Ok(true)
+        }
+        Err(error) => match error.kind() {
+            io::ErrorKind::Interrupted => Ok(true),
+            io::ErrorKind::OutOfMemory => Err(ServeFault::OutOfMemory),
+            _ => Err(ServeFault::Read),
+        },
+    }
+}

@@ -1,0 +1,9 @@
+pub mod Parts
+pub mod Names
+pub mod Items
+pub mod Loop
+pub mod Places
+pub mod Opens
+pub mod Calls
+pub mod Requests
+pub mod Frames

@@ -1,0 +1,22 @@
+// What a program asks for.
+use dl_types::Event;
+use std::alloc::{Allocator, Global};
+
+/// What a program asks for in one frame.
+#[derive(Drop)]
+pub struct Request<A: Allocator = Global> {
+    /// The number that the answer has. 0 asks for no answer.
+    pub tag: u32,
+    pub ask: Ask<A>,
+}
+
+/// What is asked for.
+#[derive(Drop)]
+pub enum Ask<A: Allocator = Global> {
+    /// Which version of the frames the program speaks.
+    Hello(u16),
+    /// One step of the hub.
+    Event(Event<A>),
+    /// Everything that waits is written.
+    All,
+}
