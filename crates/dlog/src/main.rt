@@ -15,6 +15,7 @@ mod folder;
 mod info;
 mod kept;
 mod repair;
+mod serve;
 mod tail;
 mod watched;
 
@@ -70,6 +71,7 @@ fn run_command(rt: &HostRuntime, name: &str, options: &ArgMatches<'_>) -> ExitCo
         "list" => check::list(rt, options),
         "info" => info::run(rt, options),
         "repair" => repair::run(rt, options),
+        "serve" => serve::run(rt, options),
         "append" => append::run(rt, options),
         "dump" => dump::run(rt, options),
         "digest" => digest::run(rt, options),
@@ -114,6 +116,7 @@ fn with_work<'a>(alloc: Global, command: Command<'a>) -> Result<Command<'a>, All
         .subcommand(repair::command(alloc)?)?
         .subcommand(dump::command(alloc)?)?
         .subcommand(tail::command(alloc)?)?
+        .subcommand(serve::command(alloc)?)?
         .subcommand(append::command(alloc)?)
 }
 

@@ -1,0 +1,187 @@
+/* The scenarios of the clients, by the C client. Words: the program, and an empty folder. */
+#include "../c/dlog.h"
+
+#include <signal.h>
+#include <stdio.h>
+#include <stdlib.h>
+#include <string.h>
+#include <sys/stat.h>
+#include <sys/wait.h>
+#include <time.h>
+
+enum { MANY = 100000, AHEAD = 64, ITEM_BYTES = 100 };
+
+static const char *program;
+static char folder[4096];
+
+#define CHECK(fact)                                                         \
+    do {                                                                    \
+        if (!(fact)) {                                                      \
+            fprintf(stderr, "c: %s:%d: %s\n", __func__, __LINE__, #fact);   \
+            exit(1);                                                        \
+        }                                                                   \
+    } while (0)
+
+static struct dlog_bytes bytes_of(const char *text)
+{
+    struct dlog_bytes bytes = { (const uint8_t *)text, strlen(text) };
+
+    return bytes;
+}
+
+static void begin(struct dlog *dlog, const char *parent, const char *name)
+{
+    snprintf(folder, sizeof folder, "%s/%s", parent, name);
+    CHECK(mkdir(folder, 0700) == 0);
+    CHECK(dlog_start(dlog, program, folder) == 0);
+}
+
+static void items_come_back_in_order(const char *parent)
+{
+    struct dlog dlog;
+    struct dlog_answer answer;
+    struct dlog_items items;
+    struct dlog_bytes item, two[2];
+
+    begin(&dlog, parent, "order");
+    two[0] = bytes_of("first");
+    two[1] = bytes_of("second");
+    CHECK(dlog_open(&dlog, 1, "words", NULL, &answer) == 0 && answer.kind == DLOG_OPENED);
+    CHECK(dlog_log(&dlog, 1, "words", two, 2, &answer) == 0 && answer.kind == DLOG_DONE);
+    CHECK(dlog_chunk(&dlog, 1, "words", NULL, 9, &answer) == 0);
+    CHECK(dlog_items(&answer, &items) == 0 && items.bad == 0);
+    CHECK(dlog_next_item(&items, &item) == 0 && item.length == 5 && memcmp(item.at, "first", 5) == 0);
+    CHECK(dlog_next_item(&items, &item) == 0 && item.length == 6);
+    CHECK(dlog_next_item(&items, &item) == 1);
+    CHECK(dlog_chunk(&dlog, 1, "words", &items.next, 9, &answer) == 0 && answer.kind == DLOG_EOF);
+    CHECK(dlog_close(&dlog, 1, "words", &answer) == 0 && answer.kind == DLOG_DONE);
+    CHECK(dlog_log(&dlog, 1, "words", two, 2, &answer) == 0 && answer.kind == DLOG_REFUSED + 2);
+    CHECK(dlog_stop(&dlog) == 0);
+}
+
+static void a_full_log_refuses_and_tells(const char *parent)
+{
+    struct dlog dlog;
+    struct dlog_answer answer;
+    struct dlog_options options = { .has_size = 1, .bytes = 40, .notify = 1 };
+    struct dlog_bytes item = bytes_of("123456789012345678901234567890");
+    uint32_t tag;
+
+    begin(&dlog, parent, "full");
+    CHECK(dlog_open(&dlog, 1, "small", &options, &answer) == 0 && answer.kind == DLOG_OPENED);
+    CHECK(dlog_send_log(&dlog, 1, "small", &item, 1, &tag) == 0);
+    CHECK(dlog_receive(&dlog, &answer) == 0 && answer.tag == tag);
+    CHECK(answer.kind == DLOG_REFUSED + 14);
+    CHECK(dlog_receive(&dlog, &answer) == 0 && answer.kind == DLOG_NOTICE);
+    CHECK(dlog_receive(&dlog, &answer) == 0 && answer.kind == DLOG_NOTICE);
+    CHECK(dlog_stop(&dlog) == 0);
+}
+
+static void a_block_keeps_the_calls_of_others(const char *parent)
+{
+    struct dlog dlog;
+    struct dlog_answer answer;
+    struct dlog_bytes item = bytes_of("late");
+    uint32_t tag;
+
+    begin(&dlog, parent, "block");
+    CHECK(dlog_open(&dlog, 1, "shared", NULL, &answer) == 0 && answer.kind == DLOG_OPENED);
+    CHECK(dlog_block(&dlog, 1, "shared", 1, &answer) == 0 && answer.kind == DLOG_DONE);
+    CHECK(dlog_send_log(&dlog, 2, "shared", &item, 1, &tag) == 0);
+    CHECK(dlog_chunk(&dlog, 1, "shared", NULL, 9, &answer) == 0 && answer.kind == DLOG_EOF);
+    CHECK(dlog_unblock(&dlog, 1, "shared", &answer) == 0 && answer.kind == DLOG_DONE);
+    CHECK(dlog_receive(&dlog, &answer) == 0 && answer.tag == tag && answer.kind == DLOG_DONE);
+    CHECK(dlog_stop(&dlog) == 0);
+}
+
+static double now(void)
+{
+    struct timespec time;
+
+    clock_gettime(CLOCK_MONOTONIC, &time);
+    return (double)time.tv_sec + (double)time.tv_nsec / 1e9;
+}
+
+static void a_hundred_thousand_items_pipelined(const char *parent)
+{
+    struct dlog dlog;
+    struct dlog_answer answer;
+    struct dlog_items items;
+    struct dlog_bytes item;
+    struct dlog_place place = { 0, { 0 } };
+    char text[ITEM_BYTES + 1];
+    int sent = 0, answered = 0, read = 0;
+    double start;
+
+    begin(&dlog, parent, "many");
+    CHECK(dlog_open(&dlog, 1, "many", NULL, &answer) == 0 && answer.kind == DLOG_OPENED);
+    start = now();
+    while (answered < MANY) {
+        uint32_t tag;
+
+        for (; sent < MANY && sent < answered + AHEAD; sent++) {
+            snprintf(text, sizeof text, "%0*d", ITEM_BYTES, sent);
+            item = bytes_of(text);
+            CHECK(dlog_send_log(&dlog, 1, "many", &item, 1, &tag) == 0);
+        }
+        CHECK(dlog_receive(&dlog, &answer) == 0 && answer.kind == DLOG_DONE);
+        answered++;
+    }
+    printf("  %.0f items of 100 bytes a second\n", MANY / (now() - start));
+    for (;;) {
+        CHECK(dlog_chunk(&dlog, 1, "many", &place, 4096, &answer) == 0);
+        if (answer.kind == DLOG_EOF)
+            break;
+        CHECK(dlog_items(&answer, &items) == 0);
+        place = items.next;
+        for (; dlog_next_item(&items, &item) == 0; read++) {
+            snprintf(text, sizeof text, "%0*d", ITEM_BYTES, read);
+            CHECK(item.length == ITEM_BYTES && memcmp(item.at, text, ITEM_BYTES) == 0);
+        }
+    }
+    CHECK(read == MANY);
+    CHECK(dlog_stop(&dlog) == 0);
+}
+
+static void what_was_synced_stays_after_a_kill(const char *parent)
+{
+    struct dlog dlog;
+    struct dlog_answer answer;
+    struct dlog_items items;
+    struct dlog_bytes item = bytes_of("synced");
+    int status;
+
+    begin(&dlog, parent, "kill");
+    CHECK(dlog_open(&dlog, 1, "kept", NULL, &answer) == 0 && answer.kind == DLOG_OPENED);
+    CHECK(dlog_log(&dlog, 1, "kept", &item, 1, &answer) == 0 && answer.kind == DLOG_DONE);
+    CHECK(dlog_sync(&dlog, 1, "kept", &answer) == 0 && answer.kind == DLOG_DONE);
+    CHECK(kill(dlog.process, SIGKILL) == 0 && waitpid(dlog.process, &status, 0) > 0);
+    dlog_stop(&dlog);
+    CHECK(dlog_start(&dlog, program, folder) == 0);
+    CHECK(dlog_open(&dlog, 1, "kept", NULL, &answer) == 0 && answer.kind == DLOG_REPAIRED);
+    CHECK(dlog_chunk(&dlog, 1, "kept", NULL, 9, &answer) == 0 && dlog_items(&answer, &items) == 0);
+    CHECK(dlog_next_item(&items, &item) == 0 && item.length == 6);
+    CHECK(dlog_stop(&dlog) == 0);
+}
+
+static const struct {
+    const char *name;
+    void (*run)(const char *parent);
+} scenarios[] = {
+    { "items come back in order", items_come_back_in_order },
+    { "a full log refuses and tells", a_full_log_refuses_and_tells },
+    { "a block keeps the calls of others", a_block_keeps_the_calls_of_others },
+    { "a hundred thousand items pipelined", a_hundred_thousand_items_pipelined },
+    { "what was synced stays after a kill", what_was_synced_stays_after_a_kill },
+};
+
+int main(int count, char **words)
+{
+    CHECK(count == 3);
+    program = words[1];
+    for (size_t i = 0; i < sizeof scenarios / sizeof *scenarios; i++) {
+        scenarios[i].run(words[2]);
+        printf("c: %s\n", scenarios[i].name);
+    }
+    return 0;
+}
