@@ -122,6 +122,14 @@ fn with_work<'a>(alloc: Global, command: Command<'a>) -> Result<Command<'a>, All
 
 // The words of the command that runs a script.
 fn run_words<'a>(alloc: Global) -> Result<Command<'a>, AllocError> {
+    let command = Command::new(alloc, "run").about(
+        "Run a script from standard input and print its answers",
+    );
+    on_disk(alloc, command)
+}
+
+// A command with the options that say where the files are, how many blocks the cache has, and when bytes are synced.
+fn on_disk<'a>(alloc: Global, command: Command<'a>) -> Result<Command<'a>, AllocError> {
     let folder = Arg::new(alloc, "folder")
         .long("folder")
         .value_name("DIR")
@@ -134,8 +142,7 @@ fn run_words<'a>(alloc: Global) -> Result<Command<'a>, AllocError> {
         .value_parser(value_parser!(u32).range(1..=65_536))
         .default_value("16")
         .help("Let items wait in N blocks of 4096 bytes before they are written, from 1 to 65536");
-    Command::new(alloc, "run")
-        .about("Run a script from standard input and print its answers")
+    command
         .arg(folder)?
         .arg(blocks)?
         .arg(folder::rolls_word(alloc))
@@ -151,9 +158,16 @@ fn run(rt: &HostRuntime, options: &ArgMatches<'_>) -> ExitCode {
     };
     match open_folder(rt, options, path) {
         Ok(disk) => run_over(rt, disk, blocks),
-        Err(OpenFault::InUse) => tell(rt, "folder\nanother program uses it", FAILED),
-        Err(OpenFault::Device) => tell(rt, "folder", FAILED),
-        Err(OpenFault::OutOfMemory) => tell(rt, ScriptFault::OutOfMemory, FAILED),
+        Err(fault) => tell_folder(rt, fault),
+    }
+}
+
+// Says why a folder cannot be used.
+fn tell_folder(rt: &HostRuntime, fault: OpenFault) -> ExitCode {
+    match fault {
+        OpenFault::InUse => tell(rt, "folder\nanother program uses it", FAILED),
+        OpenFault::Device => tell(rt, "folder", FAILED),
+        OpenFault::OutOfMemory => tell(rt, ScriptFault::OutOfMemory, FAILED),
     }
 }
 

@@ -1,34 +1,21 @@
 // The command that serves the logs of a folder to the program that started it.
-use crate::{FAILED, MISUSED, open_folder, tell};
-use clap::{Arg, ArgMatches, Command, value_parser};
-use dl_disk::{Disk, MemoryDisk, OpenFault};
+use crate::{FAILED, MISUSED, on_disk, open_folder, tell, tell_folder};
+use clap::{ArgMatches, Command};
+use dl_disk::{Disk, MemoryDisk};
 use dl_hub::Hub;
-use dl_serve::{Ended, ServeFault, serve};
+use dl_serve::{Ended, serve};
 use std::alloc::{AllocError, Global};
 use std::io;
 use std::process::ExitCode;
 
 /// The words of the command.
 pub fn command<'a>(alloc: Global) -> Result<Command<'a>, AllocError> {
-    let folder = Arg::new(alloc, "folder")
-        .long("folder")
-        .value_name("DIR")
-        .help(
-            "Keep the files in the folder DIR, which has to be there, and open those that it has. Without it they are in memory",
-        );
-    let blocks = Arg::new(alloc, "blocks")
-        .long("blocks")
-        .value_name("N")
-        .value_parser(value_parser!(u32).range(1..=65_536))
-        .default_value("16")
-        .help("Let items wait in N blocks of 4096 bytes before they are written, from 1 to 65536");
-    Command::new(alloc, "serve")
+    let command = Command::new(alloc, "serve")
         .about("Answer the frames of a program on standard input and output")
         .after_help(
             "Each frame is a length in four bytes, greatest first, and so many bytes; docs/PROTOCOL.md has their form. As the input ends, the logs are closed.\nThe status is 0 if the input was served to its end, 1 if not, and 2 for wrong words.",
-        )
-        .arg(folder)?
-        .arg(blocks)
+        );
+    on_disk(alloc, command)
 }
 
 /// Serves the program on standard input and output over the disk that the words name.
@@ -39,11 +26,9 @@ pub fn run(rt: &HostRuntime, options: &ArgMatches<'_>) -> ExitCode {
     let Some(path) = options.get_str("folder") else {
         return run_over(rt, MemoryDisk::new(rt.alloc()), blocks);
     };
-    match open_folder(rt, path) {
+    match open_folder(rt, options, path) {
         Ok(disk) => run_over(rt, disk, blocks),
-        Err(OpenFault::InUse) => tell(rt, "folder\nanother program uses it", FAILED),
-        Err(OpenFault::Device) => tell(rt, "folder", FAILED),
-        Err(OpenFault::OutOfMemory) => tell(rt, ServeFault::OutOfMemory, FAILED),
+        Err(fault) => tell_folder(rt, fault),
     }
 }
 
