@@ -16,6 +16,7 @@ mod info;
 mod kept;
 mod repair;
 mod tail;
+mod threads;
 mod watched;
 
 use anyhow::Result;
@@ -58,6 +59,7 @@ fn main(rt: HostRuntime) -> Result<ExitCode> {
         Err(error) => return Ok(show(&rt, &error)),
     };
     match matches.subcommand() {
+        Some(("threads", options)) => Ok(threads::run(&rt, &rt, options)),
         Some((name, options)) => Ok(run_command(&rt, name, options)),
         None => Ok(ExitCode::from(MISUSED)),
     }
@@ -95,7 +97,8 @@ fn command<'a>(alloc: Global) -> Result<Command<'a>, AllocError> {
         .version("0.1.0")
         .about("A server of logs that keep their items in order and give them back in chunks")
         .subcommand_required(true)
-        .subcommand(run_words(alloc)?)?;
+        .subcommand(run_words(alloc)?)?
+        .subcommand(threads::command(alloc)?)?;
     with_work(alloc, with_reports(alloc, command)?)
 }
 
@@ -119,6 +122,14 @@ fn with_work<'a>(alloc: Global, command: Command<'a>) -> Result<Command<'a>, All
 
 // The words of the command that runs a script.
 fn run_words<'a>(alloc: Global) -> Result<Command<'a>, AllocError> {
+    let command = Command::new(alloc, "run").about(
+        "Run a script from standard input and print its answers",
+    );
+    on_disk(alloc, command)
+}
+
+// A command with the options that say where the files are, and how many blocks the cache has.
+fn on_disk<'a>(alloc: Global, command: Command<'a>) -> Result<Command<'a>, AllocError> {
     let folder = Arg::new(alloc, "folder")
         .long("folder")
         .value_name("DIR")
@@ -131,10 +142,7 @@ fn run_words<'a>(alloc: Global) -> Result<Command<'a>, AllocError> {
         .value_parser(value_parser!(u32).range(1..=65_536))
         .default_value("16")
         .help("Let items wait in N blocks of 4096 bytes before they are written, from 1 to 65536");
-    Command::new(alloc, "run")
-        .about("Run a script from standard input and print its answers")
-        .arg(folder)?
-        .arg(blocks)
+    command.arg(folder)?.arg(blocks)
 }
 
 // Runs the script on standard input over the disk that the options name.
@@ -147,9 +155,16 @@ fn run(rt: &HostRuntime, options: &ArgMatches<'_>) -> ExitCode {
     };
     match open_folder(rt, path) {
         Ok(disk) => run_over(rt, disk, blocks),
-        Err(OpenFault::InUse) => tell(rt, "folder\nanother program uses it", FAILED),
-        Err(OpenFault::Device) => tell(rt, "folder", FAILED),
-        Err(OpenFault::OutOfMemory) => tell(rt, ScriptFault::OutOfMemory, FAILED),
+        Err(fault) => tell_folder(rt, fault),
+    }
+}
+
+// Says why a folder cannot be used.
+fn tell_folder(rt: &HostRuntime, fault: OpenFault) -> ExitCode {
+    match fault {
+        OpenFault::InUse => tell(rt, "folder\nanother program uses it", FAILED),
+        OpenFault::Device => tell(rt, "folder", FAILED),
+        OpenFault::OutOfMemory => tell(rt, ScriptFault::OutOfMemory, FAILED),
     }
 }
 

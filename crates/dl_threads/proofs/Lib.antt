@@ -1,0 +1,4 @@
+pub mod Slices
+pub mod Commands
+pub mod Played
+pub mod Promised
