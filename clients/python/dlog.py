@@ -250,7 +250,7 @@ class Server:
         self._tag = 0
         self._answers = {}
         self._notices = collections.deque()
-        self.hello = self.call(0, struct.pack(">H", VERSION))
+        self.hello = self._say_hello()
 
     def __enter__(self):
         return self
@@ -274,7 +274,9 @@ class Server:
         return Client(self, number)
 
     def notices(self):
-        """Takes the notices that came with the answers so far."""
+        """Takes the notices of the calls that were answered. A notice follows the answer of its call,
+        so one more question is asked, before whose answer all of them are read."""
+        self._say_hello()
         taken, self._notices = list(self._notices), collections.deque()
         return taken
 
@@ -304,6 +306,10 @@ class Server:
         if isinstance(value, Error):
             raise value
         return value
+
+    def _say_hello(self):
+        """What the server says of itself. It changes nothing."""
+        return self.call(0, struct.pack(">H", VERSION))
 
     def _next_tag(self):
         self._tag = self._tag % 0xFFFFFFFF + 1
