@@ -1,6 +1,7 @@
 """Frames that a program should not write: each byte of each example to each value, each prefix, and
-random frames. Each is answered, or ends the connection as the page says, and a server never says
-anything to another client's call. Words: the program, and a seed."""
+random frames. The server serves them to the end, and each answer has the tag of a request, or none,
+and a kind of the page; a place that is told has its form. Whether the parts of an answer are right is
+not looked at. Words: the program, and a seed."""
 import os
 import random
 import struct

@@ -28,7 +28,7 @@ abbrev pub welcome_frame : ℕ → List ℕ
 welcome_frame tag = if tag == 0 then [] else frame_text (welcome_text tag VERSION FRAME_LIMIT SUSPENDED_LIMIT)
 
 module _ {D Z : Type 0} (state : D → DiskState) where
-  -- all that waits is written: blocks one after another, and one more, whose turn is the answer
+  -- some flushes one after another, and one more, whose turn is the answer. How many is not said
   abbrev pub IsAllFlushed : ℕ → Stage D Z → Stage D Z → List ℕ → Type 0
   IsAllFlushed tag old new frames =
       (n : ℕ) × (mid : Stage D Z) × (first : List ℕ) × (last : List ℕ) × Chain (IsAsked state 0) (replicate n event.Flush) old mid first × IsAsked state tag event.Flush mid new last × (frames ≡ first ++ last)
@@ -45,7 +45,7 @@ module _ {D Z : Type 0} (state : D → DiskState) where
       ((r : Request Z) × IsRequest r × (text ≡ request_text r) × IsDone r.tag r.ask old new frames)
       ⊎ ((place : ℕ) × (request_in {Z = Z} text ≡ Err place) × (new ≡ old) × (frames ≡ frame_text (bad_text (tag_of text) place)))
 
-  -- the end: the clients leave, after which none is known, and all that waits is written
+  -- the end: the clients leave, after which none is known, and then come flushes
   abbrev pub IsLeft : Stage D Z → Stage D Z → List ℕ → Type 0
   IsLeft old new frames =
       (mid : Stage D Z) × (first : List ℕ) × (last : List ℕ) × Chain (λ client. IsAsked state 0 (event.Exit client)) old.clients (record old { clients = [] }) mid first × IsAllFlushed 0 mid new last × (frames ≡ first ++ last)
