@@ -45,6 +45,14 @@ pub struct Sweep {
     pub base: Base,
 }
 
+/// A file that is also changed at each of its bytes, and cut at each of its places, before the log is opened.
+#[derive(Clone, Copy)]
+pub struct Spoil {
+    /// The number of the line in the case's file, counted from 1.
+    pub number: u64,
+    pub file: FileName,
+}
+
 /// A command on the files that a hub leaves.
 #[derive(Clone, Copy)]
 pub struct Tool<'a> {
@@ -60,6 +68,9 @@ pub enum Step<'a> {
     /// The case is run with these numbers of blocks.
     Blocks(&'a str),
     Sweep(Sweep),
+    /// The case is also stopped at each call of the device. The number is that of the line in the case's file.
+    Stops(u64),
+    Spoil(Spoil),
     File(LaidFile<'a>),
     Fail(Failure),
     Line(Line<'a>),
@@ -190,6 +201,11 @@ fn order_of(text: &str, number: u64) -> Option<Step<'_>> {
             number,
             base: Base::parse(others.as_bytes())?,
         })),
+        "stops" if others.is_empty() => Some(Step::Stops(number)),
+        "spoil" => Some(Step::Spoil(Spoil {
+            number,
+            file: FileName::parse(others.as_bytes())?,
+        })),
         "file" => Some(Step::File(file_of(others)?)),
         "fail" => Some(Step::Fail(failure_of(others)?)),
         "mend" => Some(Step::Mend),
@@ -232,7 +248,9 @@ fn fuse_of(word: &str) -> Option<Fuse> {
 // Whether a step comes after a line of its hub, although it has to come before all of them.
 fn is_late(steps: &[Step<'_>], step: Step<'_>) -> bool {
     match step {
-        Step::Blocks(_) | Step::Sweep(_) => steps.iter().any(|step| !is_setting(*step)),
+        Step::Blocks(_) | Step::Sweep(_) | Step::Stops(_) | Step::Spoil(_) => {
+            steps.iter().any(|step| !is_setting(*step))
+        }
         Step::File(_) | Step::Fail(_) => {
             let begun = steps.iter().rev().find(|step| !is_setting(**step));
             begun.is_some_and(|step| !matches!(step, Step::Again))
@@ -245,7 +263,12 @@ fn is_late(steps: &[Step<'_>], step: Step<'_>) -> bool {
 fn is_setting(step: Step<'_>) -> bool {
     matches!(
         step,
-        Step::Blocks(_) | Step::Sweep(_) | Step::File(_) | Step::Fail(_)
+        Step::Blocks(_)
+            | Step::Sweep(_)
+            | Step::Stops(_)
+            | Step::Spoil(_)
+            | Step::File(_)
+            | Step::Fail(_)
     )
 }
 

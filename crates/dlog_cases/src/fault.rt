@@ -2,7 +2,7 @@
 use dl_app::ScriptFault;
 use dl_disk::{Fuse, ListFault};
 use dl_tool::{ReportFault, StrayFault};
-use dl_types::{Base, Fail, Name};
+use dl_types::{Base, Fail, FileName, Name};
 use std::alloc::{AllocError, AllocFailed};
 use std::fmt::Write;
 use std::{fmt, io};
@@ -50,6 +50,8 @@ pub enum CaseFault {
     NotDone(u64),
     #[error("line {0} has a fault after which a sync or a close does not keep the items")]
     NotKept(u64),
+    #[error("line {0} is stopped and loses items")]
+    StopLoses(u64),
     #[error("the files that a fault leaves are not opened")]
     NotOpened,
     #[error("a log has more files or items than a sweep reads")]
@@ -92,7 +94,26 @@ pub enum How {
     /// One of its logs alone, in memory.
     Alone(Option<Name>),
     /// In memory, with a device that fails after `calls` calls on the files of a base.
-    Failing { base: Base, calls: u64, fuse: Fuse },
+    Failing {
+        base: Base,
+        calls: u64,
+        fuse: Fuse,
+    },
+    /// In memory, and stopped after so many calls of the device.
+    Stopped {
+        calls: u64,
+    },
+    /// In memory, on a file of which no more than its first bytes are left.
+    Cut {
+        file: FileName,
+        length: usize,
+    },
+    /// In memory, on a file of which a byte is changed.
+    Changed {
+        file: FileName,
+        at: usize,
+        value: u8,
+    },
 }
 
 impl How {
@@ -113,6 +134,9 @@ impl fmt::Display for How {
                 let count = count_of(*fuse);
                 write!(f, "{count} failing after {calls} calls at {base}")
             }
+            How::Stopped { calls } => write!(f, "stopped after {calls} calls"),
+            How::Cut { file, length } => write!(f, "{file} cut to {length} bytes"),
+            How::Changed { file, at, value } => write!(f, "byte {at} of {file} set to {value}"),
         }
     }
 }

@@ -9,6 +9,8 @@ mod folder;
 mod job;
 mod memory;
 mod script;
+mod spoil;
+mod stops;
 mod suite;
 mod sweep;
 mod told;

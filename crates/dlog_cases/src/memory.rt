@@ -208,8 +208,13 @@ fn laid(alloc: Global, files: &MemoryDisk, life: &[Step<'_>]) -> Result<MemoryDi
     Ok(own)
 }
 
-/// Lays down the files of a hub.
-pub fn lay_in_memory(
+/// The files that the steps lay down.
+pub fn laid_files(alloc: Global, steps: &[Step<'_>]) -> Result<MemoryDisk, CaseFault> {
+    laid(alloc, &MemoryDisk::new(alloc), steps)
+}
+
+// Lays down the files of a hub.
+fn lay_in_memory(
     alloc: Global,
     files: &mut MemoryDisk,
     life: &[Step<'_>],

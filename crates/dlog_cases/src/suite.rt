@@ -3,6 +3,8 @@ use crate::case::{Step, blocks_of, count_answers, has_failure, steps_of};
 use crate::fault::{CaseFault, How};
 use crate::folder::run_in_folder;
 use crate::memory::run_in_memory;
+use crate::spoil::run_spoils;
+use crate::stops::run_stops;
 use crate::sweep::run_sweeps;
 use crate::trial::Trial;
 use std::path::{Path, PathBuf};
@@ -130,7 +132,8 @@ fn run_case(
     Ok(count_answers(steps.as_slice()))
 }
 
-// Runs the steps of a case in memory, under each failure of its sweeps, and in a folder if its device does not fail.
+// Runs the steps of a case in memory, under each failure of its sweeps, stopped at each call, over spoilt files, and in a folder if its
+// device does not fail.
 fn run_steps(
     rt: &HostRuntime,
     steps: &[Step<'_>],
@@ -139,6 +142,8 @@ fn run_steps(
 ) -> Result<(), CaseFault> {
     run_in_memory(rt.alloc(), steps, trial)?;
     run_sweeps(rt.alloc(), steps, trial)?;
+    run_stops(rt.alloc(), steps, trial)?;
+    run_spoils(rt.alloc(), steps, trial)?;
     if has_failure(steps) {
         return Ok(());
     }

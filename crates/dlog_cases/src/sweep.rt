@@ -1,8 +1,8 @@
 // A case whose device fails at each of its calls in turn.
-mod course;
-mod items;
+pub mod course;
+pub mod items;
 mod judge;
-mod run;
+pub mod run;
 
 use self::course::{Course, records_of, texts_of};
 use self::items::verb_of;
@@ -10,9 +10,9 @@ use self::judge::judge;
 use crate::alone::{Deed, deed_of};
 use crate::case::{Failure, Line, Step, Sweep};
 use crate::fault::{CaseFault, How};
-use crate::memory::lay_in_memory;
+use crate::memory::laid_files;
 use crate::trial::Trial;
-use dl_disk::{Fuse, MemoryDisk};
+use dl_disk::Fuse;
 use std::alloc::Global;
 
 // How many calls a run may have before its device fails.
@@ -48,7 +48,7 @@ fn course_of<'a>(
 ) -> Result<Course<'a>, CaseFault> {
     let log = swept_log(steps).ok_or(CaseFault::BadOrder(sweep.number))?;
     let texts = texts_of(alloc, steps, log)?;
-    let files = files_of(alloc, steps)?;
+    let files = laid_files(alloc, steps)?;
     let blocks = trial.blocks;
     let records = records_of(alloc, blocks, &texts, &files, &mut trial.told)?;
     Ok(Course {
@@ -60,13 +60,6 @@ fn course_of<'a>(
         files,
         records,
     })
-}
-
-// The files that the steps lay down.
-fn files_of(alloc: Global, steps: &[Step<'_>]) -> Result<MemoryDisk, CaseFault> {
-    let mut files = MemoryDisk::new(alloc);
-    lay_in_memory(alloc, &mut files, steps)?;
-    Ok(files)
 }
 
 // The log that a case is about if it may be swept: it has one hub and no command, and client 1 opens the log, in its first line.
@@ -81,8 +74,8 @@ fn swept_log<'a>(steps: &[Step<'a>]) -> Option<&'a str> {
         .then_some(log)
 }
 
-// The log that a line opens for client 1.
-fn opened_log(line: Line<'_>) -> Option<&str> {
+/// The log that a line opens for client 1.
+pub fn opened_log(line: Line<'_>) -> Option<&str> {
     let mut words = line.text.split(' ');
     match (words.next(), words.next(), words.next()) {
         (Some("1"), Some("open"), Some(log)) => Some(log),
@@ -93,7 +86,7 @@ fn opened_log(line: Line<'_>) -> Option<&str> {
 // Whether a step may stand in a case about this log that is swept.
 fn may_be_swept(step: Step<'_>, log: &str) -> bool {
     match step {
-        Step::Blocks(_) | Step::File(_) | Step::Sweep(_) => true,
+        Step::Blocks(_) | Step::File(_) | Step::Sweep(_) | Step::Stops(_) => true,
         Step::Line(line) => match deed_of(line) {
             Deed::Call {
                 client,

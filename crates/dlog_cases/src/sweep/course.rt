@@ -101,7 +101,7 @@ impl Course<'_> {
 pub fn texts_of<'a>(alloc: Global, steps: &[Step<'a>], log: &str) -> Result<Texts<'a>, AllocError> {
     let lines = lines_of(alloc, steps)?;
     let script = script_of(alloc, lines.as_slice())?;
-    let opens = opens_of(alloc, lines.as_slice())?;
+    let opens = opens_of(alloc, lines.first().map_or("", |line| line.text))?;
     let probe = probe_of(alloc, log)?;
     let synced = format!(in alloc; "{probe}{STRANGER} sync {log}\n")?;
     let closed = format!(in alloc; "{probe}1 close {log}\n")?;
@@ -115,10 +115,10 @@ pub fn texts_of<'a>(alloc: Global, steps: &[Step<'a>], log: &str) -> Result<Text
     })
 }
 
-// The first line, and the same open with no size.
-fn opens_of(alloc: Global, lines: &[Line<'_>]) -> Result<String, AllocError> {
-    let open = lines.first().map_or("", |line| line.text);
-    let mut text = format!(in alloc; "{open}\n1")?;
+/// An open, and the same with no size.
+pub fn opens_of(alloc: Global, open: &str) -> Result<String, AllocError> {
+    let client = open.split(' ').next().unwrap_or("");
+    let mut text = format!(in alloc; "{open}\n{client}")?;
     for word in open.split(' ').skip(1) {
         if !word.starts_with("size=") {
             text.push(' ')?;

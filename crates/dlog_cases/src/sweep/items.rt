@@ -13,6 +13,9 @@ pub const NO_LOG: &str = "E2 no_such_log";
 /// The answer to an open of a log that needs no repair.
 pub const OPENED: &str = "opened";
 
+/// The answer to an open if files that an index names are missing.
+pub const PARTED: &str = "E11 invalid_index_file";
+
 /// The client of a probe, who has no part in the log.
 pub const STRANGER: u32 = u32::MAX;
 
@@ -106,19 +109,18 @@ fn with_sent(alloc: Global, before: &str, line: &str) -> Result<String, AllocErr
     let mut text = String::from_str(alloc, before)?;
     for word in line.split(' ').skip(3) {
         text.push(' ')?;
-        push_item(alloc, &mut text, word)?;
+        text.push_str(item_text(alloc, word)?.as_str())?;
     }
     Ok(text)
 }
 
-// Adds an item of a script as an answer writes it.
-fn push_item(alloc: Global, text: &mut String, word: &str) -> Result<(), AllocError> {
+/// An item of a script as an answer writes it.
+pub fn item_text(alloc: Global, word: &str) -> Result<String, AllocError> {
     let item = expanded(alloc, word)?;
     if item.is_empty() {
-        return text.push('-');
+        return String::from_str(alloc, "-");
     }
-    let digits = hex::encode(alloc, item.as_str())?;
-    text.push_str(digits.as_str())
+    hex::encode(alloc, item.as_str())
 }
 
 // How many items were lost with files that were replaced, by the notices of an answer.
@@ -152,8 +154,8 @@ fn is_midway(
     Ok(before.len() <= count && left.starts_with(has.as_slice()))
 }
 
-// The items that a probe found, one by one.
-fn items_of(alloc: Global, seen: &str) -> Result<Vec<&str>, AllocError> {
+/// The items that a probe found, one by one.
+pub fn items_of(alloc: Global, seen: &str) -> Result<Vec<&str>, AllocError> {
     seen.split(' ').skip(1).collect(alloc)
 }
 

@@ -1,8 +1,8 @@
 // What a fault may leave.
 use super::course::{Course, End, Record};
 use super::items::{
-    NO_LOG, OPENED, answers_of, is_done, is_left, is_repaired, is_sound, opened_in, seen_in,
-    verb_of,
+    NO_LOG, OPENED, PARTED, answers_of, is_done, is_left, is_repaired, is_sound, opened_in,
+    seen_in, verb_of,
 };
 use super::run::Run;
 use crate::case::Failure;
@@ -10,9 +10,6 @@ use crate::fault::CaseFault;
 use crate::script::{script_of, tell};
 use dl_disk::MemoryDisk;
 use dl_types::FileName;
-
-// The answer to an open if files that an index names are missing.
-const PARTED: &str = "E11 invalid_index_file";
 
 // The first line with another answer than without a fault, and that answer.
 #[derive(Clone, Copy)]

@@ -3,7 +3,8 @@ use crate::case::Failure;
 use crate::fault::CaseFault;
 use crate::memory::{MemoryHub, hub_over};
 use dl_app::run_script;
-use dl_disk::MemoryDisk;
+use dl_disk::{FuseDisk, MemoryDisk};
+use dl_hub::Hub;
 use std::alloc::Global;
 
 /// What a hub answered to two scripts, and what it left.
@@ -29,6 +30,18 @@ pub fn run_hub(
     run_both(alloc, &mut hub, first, second)
 }
 
+/// Runs two scripts on a hub over this disk, which is mended before the second.
+pub fn run_over(
+    alloc: Global,
+    blocks: u32,
+    disk: FuseDisk<MemoryDisk>,
+    first: &str,
+    second: &str,
+) -> Result<Run, CaseFault> {
+    let mut hub = Hub::new(alloc, disk, blocks).map_err(CaseFault::Hub)?;
+    run_both(alloc, &mut hub, first, second)
+}
+
 // Runs two scripts on a hub, whose device is mended before the second.
 fn run_both(
     alloc: Global,
@@ -49,8 +62,8 @@ fn run_both(
     })
 }
 
-// What a script answers on a hub.
-fn answers_to(alloc: Global, hub: &mut MemoryHub, script: &str) -> Result<String, CaseFault> {
+/// What a script answers on a hub.
+pub fn answers_to(alloc: Global, hub: &mut MemoryHub, script: &str) -> Result<String, CaseFault> {
     let mut input = script.as_bytes();
     let mut output = Vec::new(alloc);
     run_script(alloc, &mut input, &mut output, hub).map_err(CaseFault::Script)?;
