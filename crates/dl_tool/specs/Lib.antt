@@ -12,3 +12,4 @@ pub mod About
 pub mod Copy
 pub mod Named
 pub mod Stray
+pub mod Zeros

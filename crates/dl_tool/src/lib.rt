@@ -20,6 +20,7 @@ mod stray;
 mod table;
 mod told;
 mod wrap;
+mod zeros;
 
 pub use about::describe_log;
 pub use check::check_log;
@@ -32,3 +33,4 @@ pub use list::list_logs;
 pub use report::{Health, ReportFault, check_logs};
 pub use stray::{StrayFault, find_strays};
 pub use told::Style;
+pub use zeros::ends_in_zeros;

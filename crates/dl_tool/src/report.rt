@@ -1,15 +1,18 @@
 // The logs of a folder are checked and reported one by one.
-ghost use Rattle.std.specs.Prelude.{◌≡◌, ◌&&◌, ◌||◌, List, ℕ, IsTrue, IfOk, OnOk};
+ghost use Rattle.std.specs.Prelude.{◌≡◌, ◌&&◌, ◌||◌, ◌++◌, List, ℕ, IsTrue, IfOk, OnOk};
+ghost use Rattle.std.specs.List.{flat_map};
 ghost use Rattle.std.specs.Io.KnownBytes.{Appends};
 ghost use Rattle.dl_tool.specs.declared.finding.Finding.{Finding};
 ghost use Rattle.dl_tool.specs.Report.{health_of, health_by, is_clean, is_unread, FindsLog, Tells};
 ghost use Rattle.dl_tool.specs.Told.{IsTold};
+ghost use Rattle.dl_tool.specs.Zeros.{torn_file};
 
 use crate::check::check_log;
 use crate::finding::Finding;
 use crate::line::LogFiles;
 use crate::told::{Style, push_told};
 use dl_disk::Disk;
+use dl_types::FileName;
 use std::alloc::{AllocError, Allocator};
 use std::io::Write;
 use thiserror::Error;
@@ -41,17 +44,19 @@ impl From<AllocError> for ReportFault {
     }
 }
 
-/// Checks each of these logs, which are not open, and writes what it finds of each, in their order. Nothing is changed.
+/// Checks each of these logs, which are not open, and writes what it finds of each, in their order. The last files of those
+/// that need a repair are added to `torn`. Nothing is changed.
 pub fn check_logs<D: Disk, W: Write, A: Allocator + Copy>(
     alloc: A,
     disk: &mut D,
     logs: &[LogFiles],
     style: Style,
+    torn: &mut Vec<FileName, A>,
     output: &mut W,
 ) -> Result<Health, ReportFault>
     ensures same { IsTrue (D.state disk.new).honest → (D.state disk.new).content ≡ (D.state disk.old).content }
     ensures stayed { IsTrue (D.state disk.new).honest → IsTrue (D.state disk.old).honest }
-    ensures told { IfOk result (λ health. (found : List Finding) × (health ≡ health_of found)
+    ensures told { IfOk result (λ health. (found : List Finding) × (health ≡ health_of found) × (torn.new.items ≡ torn.old.items ++ flat_map torn_file found)
         × Tells A style (D.state disk.old) (D.state disk.new) logs.now found (W.contents output.old) (W.contents output.new)) }
 {
     let mut tally = Tally {
@@ -60,6 +65,7 @@ pub fn check_logs<D: Disk, W: Write, A: Allocator + Copy>(
     };
     for log in logs {
         let found = check_next(alloc, disk, *log, style, output)?;
+        push_torn(torn, found)?;
         tally = tally_with(tally, found);
     }
     Ok(health_by(tally))
@@ -90,6 +96,16 @@ fn check_next<D: Disk, W: Write, A: Allocator + Copy>(
     push_told(&mut text, style, log, found)?;
     write_text(text.as_slice(), output)?;
     Ok(found)
+}
+
+// Adds the last file of a log that needs a repair.
+fn push_torn<A: Allocator>(torn: &mut Vec<FileName, A>, found: Finding) -> Result<(), AllocError>
+    ensures { OnOk result (torn.new.items ≡ torn.old.items ++ torn_file found) }
+{
+    if let Finding::Torn { file, .. } = found {
+        torn.push(file)?;
+    }
+    Ok(())
 }
 
 /// Writes a text.

@@ -9,9 +9,10 @@ use crate::{BUFFER_BYTES, MISUSED, UNCLEAN, UNREAD, tell};
 use clap::{Arg, ArgAction, ArgMatches, Command};
 use dl_digest::DigestLine;
 use dl_tool::{
-    Health, LogFiles, ReportFault, Style, check_logs, find_strays, list_logs, logs_named,
+    Health, LogFiles, ReportFault, Style, check_logs, ends_in_zeros, find_strays, list_logs,
+    logs_named,
 };
-use dl_types::Base;
+use dl_types::{Base, FileName};
 use std::alloc::{AllocError, Global};
 use std::io;
 use std::io::{BufWriter, Write};
@@ -144,7 +145,8 @@ fn worse(checked: ExitCode, compared: u8) -> ExitCode {
     }
 }
 
-// Checks these logs of a folder, and finds the files that no index names if the words name no log.
+// Checks these logs of a folder and what the last items of torn ones have, and finds the files that no index names if the words name no
+// log.
 fn check_folder(
     rt: &HostRuntime,
     options: &ArgMatches<'_>,
@@ -152,7 +154,9 @@ fn check_folder(
     logs: &[LogFiles],
     style: Style,
 ) -> Result<ExitCode, ExitCode> {
-    let status = check_these(rt, disk, logs, style)?;
+    let mut torn = Vec::new(rt.alloc());
+    let status = check_these(rt, disk, logs, style, &mut torn)?;
+    tell_zeros(rt, disk, torn.as_slice(), style)?;
     if options.get_strs("names").is_none() {
         tell_strays(rt, disk, style)?;
     }
@@ -166,28 +170,64 @@ fn tell_strays(rt: &HostRuntime, disk: &mut FolderOfLogs, style: Style) -> Resul
         Err(fault) => return Err(tell(rt, fault, UNREAD)),
     };
     for file in &strays {
-        let told = match style {
-            Style::Line => println!(rt; "{file} stray: no index names it"),
-            Style::Json => println!(rt; "{{\"file\":\"{file}\",\"state\":\"stray\"}}"),
-        };
-        if told.is_err() {
-            return Err(tell(rt, ReportFault::Write, UNREAD));
+        tell_file(rt, *file, style, "stray", "no index names it")?;
+    }
+    Ok(())
+}
+
+// Reports those of these files whose last item has bytes, none of them other than zero.
+fn tell_zeros(
+    rt: &HostRuntime,
+    disk: &mut FolderOfLogs,
+    files: &[FileName],
+    style: Style,
+) -> Result<(), ExitCode> {
+    for file in files {
+        match ends_in_zeros(rt.alloc(), disk, *file) {
+            Ok(true) => tell_file(
+                rt,
+                *file,
+                style,
+                "zeros",
+                "its last item has no byte but zeros",
+            )?,
+            Ok(false) => {}
+            Err(fault) => return Err(tell(rt, fault, UNREAD)),
         }
     }
     Ok(())
 }
 
-/// Checks these logs.
+// Reports a file by a word for what was found, which these words explain.
+fn tell_file(
+    rt: &HostRuntime,
+    file: FileName,
+    style: Style,
+    word: &str,
+    why: &str,
+) -> Result<(), ExitCode> {
+    let told = match style {
+        Style::Line => println!(rt; "{file} {word}: {why}"),
+        Style::Json => println!(rt; "{{\"file\":\"{file}\",\"state\":\"{word}\"}}"),
+    };
+    if told.is_err() {
+        return Err(tell(rt, ReportFault::Write, UNREAD));
+    }
+    Ok(())
+}
+
+/// Checks these logs. The last files of those that need a repair are added to `torn`.
 pub fn check_these(
     rt: &HostRuntime,
     disk: &mut FolderOfLogs,
     logs: &[LogFiles],
     style: Style,
+    torn: &mut Vec<FileName>,
 ) -> Result<ExitCode, ExitCode> {
     let Ok(mut output) = BufWriter::with_capacity(rt.alloc(), BUFFER_BYTES, io::writer(rt)) else {
         return Err(tell(rt, ReportFault::OutOfMemory, UNREAD));
     };
-    let checked = check_logs(rt.alloc(), disk, logs, style, &mut output);
+    let checked = check_logs(rt.alloc(), disk, logs, style, torn, &mut output);
     let is_written = output.flush().is_ok();
     Ok(end(rt, checked, is_written))
 }

@@ -8,10 +8,11 @@ use dl_pipe::{
     dump_log, repair_log,
 };
 use dl_tool::{
-    LogFiles, Style, check_logs, describe_log, find_logs, find_strays, list_logs, logs_named,
+    LogFiles, Style, check_logs, describe_log, ends_in_zeros, find_logs, find_strays, list_logs,
+    logs_named,
 };
-use dl_types::{Base, Item, Kind, Name, Size};
-use std::alloc::Global;
+use dl_types::{Base, FileName, Item, Kind, Name, Size};
+use std::alloc::{AllocError, Global};
 use std::io::Write;
 
 /// Reports on a disk if the command does that, or returns the log that the command works on.
@@ -26,7 +27,9 @@ pub fn tell_of<D: Disk>(
     match tool.verb {
         "check" => {
             let style = style_of(others);
-            check_logs(alloc, disk, &found, style, output)?;
+            let mut torn = Vec::new(alloc);
+            check_logs(alloc, disk, &found, style, &mut torn, output)?;
+            tell_zeros(alloc, disk, torn.as_slice(), style, output)?;
             tell_strays(alloc, disk, style, output)?;
             Ok(None)
         }
@@ -50,12 +53,40 @@ fn tell_strays<D: Disk>(
     output: &mut Vec<u8>,
 ) -> Result<(), CaseFault> {
     for file in &find_strays(alloc, disk)? {
-        match style {
-            Style::Line => writeln!(output, "{file} stray: no index names it")?,
-            Style::Json => writeln!(output, "{{\"file\":\"{file}\",\"state\":\"stray\"}}")?,
+        tell_file(*file, style, "stray", "no index names it", output)?;
+    }
+    Ok(())
+}
+
+// Reports those of these files whose last item has no byte but zeros, as a check does.
+fn tell_zeros<D: Disk>(
+    alloc: Global,
+    disk: &mut D,
+    files: &[FileName],
+    style: Style,
+    output: &mut Vec<u8>,
+) -> Result<(), CaseFault> {
+    for file in files {
+        if ends_in_zeros(alloc, disk, *file).map_err(|_| CaseFault::Tool)? {
+            let why = "its last item has no byte but zeros";
+            tell_file(*file, style, "zeros", why, output)?;
         }
     }
     Ok(())
+}
+
+// Reports a file by a word for what was found, as a check does.
+fn tell_file(
+    file: FileName,
+    style: Style,
+    word: &str,
+    why: &str,
+    output: &mut Vec<u8>,
+) -> Result<(), AllocError> {
+    match style {
+        Style::Line => writeln!(output, "{file} {word}: {why}"),
+        Style::Json => writeln!(output, "{{\"file\":\"{file}\",\"state\":\"{word}\"}}"),
+    }
 }
 
 // The style of the report of a check.

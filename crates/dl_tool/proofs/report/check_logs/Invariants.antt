@@ -1,7 +1,8 @@
-use Rattle.std.proofs.Common.{◌≡◌, List, IsTrue, take}
-use Rattle.std.specs.List.{list_all, list_any}
+use Rattle.std.proofs.Common.{◌≡◌, ◌++◌, List, IsTrue, take}
+use Rattle.std.specs.List.{list_all, list_any, flat_map}
 use Rattle.dl_tool.specs.declared.finding.Finding.{Finding}
 use Rattle.dl_tool.specs.Report.{is_clean, is_unread, Tells}
+use Rattle.dl_tool.specs.Zeros.{torn_file}
 use Rattle.dl_tool.proofs.report.check_logs.Given as goal
 
 -- the logs so far were reported
@@ -12,5 +13,6 @@ invariant-loop-log g l = record {
   found : List Finding;
   clean : l.tally.clean ≡ list_all is_clean found;
   unread : l.tally.unread ≡ list_any is_unread found;
+  torn : l.torn.items ≡ l.fn.torn.items ++ flat_map torn_file found;
   told : Tells g.row.A.Denot l.style (g.D.Disk.state l.fn.disk) (g.D.Disk.state l.disk) (take l.log-index l.logs) found (g.W.Write.contents l.fn.output) (g.W.Write.contents l.output);
 }
