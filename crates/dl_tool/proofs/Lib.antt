@@ -9,4 +9,4 @@ pub mod Lists
 pub mod Copies
 pub mod Strays
 pub mod Opened
-pub mod Zeros
+pub mod LastItems
