@@ -1,6 +1,8 @@
 #!/usr/bin/env escript
 %% The scenarios of the clients, by the Erlang client. Words: the folder of its modules, the program, and an empty folder.
 
+-mode(compile).
+
 -define(MANY, 100000).
 -define(AHEAD, 64).
 
@@ -10,8 +12,8 @@ main([Compiled, Program, Folder]) ->
     [begin
          File = filename:join([Folder, Name, "log"]),
          ok = filelib:ensure_dir(File),
-         Run(fun(Log) -> File ++ Log end),
-         dlog:stop(),
+         {_, Monitor} = spawn_monitor(fun() -> Run(fun(Log) -> File ++ Log end) end),
+         receive {'DOWN', Monitor, process, _, normal} -> dlog:stop() end,
          io:format("erlang: ~s~n", [Name])
      end || {Name, Run} <- scenarios()].
 
