@@ -46,7 +46,7 @@ static void run(struct dlog *dlog, const char *log, const char *name, long count
         do {
             check(dlog_receive(dlog, &answer) == 0 && answer.kind == DLOG_DONE);
             answered++;
-        } while (answered < sent);
+        } while (sent - answered > ahead / 2);
     }
     check(dlog_close(dlog, 1, log, &answer) == 0 && answer.kind == DLOG_DONE);
     printf("%s: %.0f\n", name, (double)count / (now() - start));

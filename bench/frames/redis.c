@@ -59,7 +59,7 @@ static void run(redisContext *context, const char *list, const char *name, long 
                 exit(1);
             freeReplyObject(reply);
             answered++;
-        } while (answered < sent);
+        } while (sent - answered > ahead / 2);
     }
     printf("%s: %.0f\n", name, (double)count / (now() - start));
 }

@@ -88,8 +88,8 @@ impl Server {
     ) -> Result<(), Error> {
         let mut tags = VecDeque::new();
         for item in items {
-            if tags.len() >= 2 * ahead.max(1) {
-                self.take_answers(&mut tags, ahead)?;
+            if tags.len() >= ahead.max(1) {
+                self.take_answers(&mut tags, ahead / 2)?;
             }
             tags.push_back(self.send_log(log, &[item]));
         }
