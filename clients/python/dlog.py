@@ -420,15 +420,16 @@ class Log:
     def log_many(self, items, ahead=64):
         """Logs each item by a call of its own, with up to `ahead` calls under way."""
         server, tags, frames = self.server, collections.deque(), []
+        half = max(1, ahead // 2)
         for item in items:
             tag = server._next_tag()
             parts = self._front + _items((item,))
             frames.append(_bytes(struct.pack(">IB", tag, 2) + parts))
             tags.append(tag)
-            if len(frames) == ahead:
+            if len(frames) == half:
                 server._write(b"".join(frames))
                 frames.clear()
-                while len(tags) > ahead:
+                while len(tags) > ahead - half:
                     server.answer(tags.popleft())
         server._write(b"".join(frames))
         for tag in tags:

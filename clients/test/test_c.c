@@ -77,6 +77,37 @@ static void a_full_log_refuses_and_tells(const char *parent)
     CHECK(dlog_stop(&dlog) == 0);
 }
 
+static void a_wrap_log_rolls(const char *parent)
+{
+    static const char *const texts[] = { "one-one-", "two-two-", "three---" };
+    struct dlog dlog;
+    struct dlog_answer answer;
+    struct dlog_items items;
+    struct dlog_bytes item, head = bytes_of("h");
+    struct dlog_options options = { .has_size = 1, .bytes = 40, .files = 2, .notify = 1, .head = &head };
+    uint8_t step[5] = { 0, 0, 0, 0, 1 };
+    struct dlog_place place = { 1, { 0 } };
+    uint32_t tag;
+
+    begin(&dlog, parent, "wrap");
+    CHECK(dlog_open(&dlog, 1, "ring", &options, &answer) == 0 && answer.kind == DLOG_OPENED);
+    for (int i = 0; i < 3; i++) {
+        item = bytes_of(texts[i]);
+        CHECK(dlog_send_log(&dlog, 1, "ring", &item, 1, &tag) == 0);
+        CHECK(dlog_receive(&dlog, &answer) == 0 && answer.tag == tag && answer.kind == DLOG_DONE);
+        if (i > 0)
+            CHECK(dlog_receive(&dlog, &answer) == 0 && answer.kind == DLOG_NOTICE);
+    }
+    CHECK(dlog_call(&dlog, 5, 1, "ring", step, sizeof step, &answer) == 0 && answer.kind == DLOG_AT);
+    memcpy(place.bytes, answer.parts, sizeof place.bytes);
+    CHECK(dlog_chunk(&dlog, 1, "ring", &place, 9, &answer) == 0 && dlog_items(&answer, &items) == 0);
+    CHECK(dlog_next_item(&items, &item) == 0 && item.length == 1 && item.at[0] == 'h');
+    options.head = NULL;
+    CHECK(dlog_open(&dlog, 1, "ring2", &options, &answer) == 0 && answer.kind == DLOG_OPENED);
+    CHECK(dlog_call(&dlog, 5, 1, "ring2", step, sizeof step, &answer) == 0 && answer.kind == DLOG_REFUSED + 22);
+    CHECK(dlog_stop(&dlog) == 0);
+}
+
 static void a_block_keeps_the_calls_of_others(const char *parent)
 {
     struct dlog dlog;
@@ -164,15 +195,60 @@ static void what_was_synced_stays_after_a_kill(const char *parent)
     CHECK(dlog_stop(&dlog) == 0);
 }
 
+static void what_is_no_request_is_told(const char *parent)
+{
+    static const struct { uint8_t op; size_t length; uint8_t place; } wrong[] = { { 200, 0, 4 }, { 2, 0, 11 }, { 13, 1, 11 } };
+    struct dlog dlog;
+    struct dlog_answer answer;
+    struct dlog_bytes item = bytes_of("still there");
+
+    begin(&dlog, parent, "wrong");
+    CHECK(dlog_open(&dlog, 1, "a", NULL, &answer) == 0 && answer.kind == DLOG_OPENED);
+    for (size_t i = 0; i < sizeof wrong / sizeof *wrong; i++) {
+        CHECK(dlog_call(&dlog, wrong[i].op, 1, "a", "x", wrong[i].length, &answer) == 0);
+        CHECK(answer.kind == DLOG_BAD_FRAME && answer.length == 4 && answer.parts[3] == wrong[i].place);
+    }
+    CHECK(dlog_log(&dlog, 1, "a", &item, 1, &answer) == 0 && answer.kind == DLOG_DONE);
+    CHECK(dlog_stop(&dlog) == 0);
+}
+
+static void many_clients_stop_in_order(const char *parent)
+{
+    struct dlog dlog;
+    struct dlog_answer answer;
+    struct dlog_items items;
+    struct dlog_bytes item = bytes_of("one item");
+    char name[16];
+
+    begin(&dlog, parent, "clients");
+    for (uint32_t client = 1; client < 50; client++) {
+        snprintf(name, sizeof name, "log%u", client);
+        CHECK(dlog_open(&dlog, client, name, NULL, &answer) == 0 && answer.kind == DLOG_OPENED);
+        CHECK(dlog_log(&dlog, client, name, &item, 1, &answer) == 0 && answer.kind == DLOG_DONE);
+    }
+    CHECK(dlog_stop(&dlog) == 0);
+    CHECK(dlog_start(&dlog, program, folder) == 0);
+    for (uint32_t number = 1; number < 50; number++) {
+        snprintf(name, sizeof name, "log%u", number);
+        CHECK(dlog_open(&dlog, 7, name, NULL, &answer) == 0 && answer.kind == DLOG_OPENED);
+        CHECK(dlog_chunk(&dlog, 7, name, NULL, 9, &answer) == 0 && dlog_items(&answer, &items) == 0);
+        CHECK(items.left == 1);
+    }
+    CHECK(dlog_stop(&dlog) == 0);
+}
+
 static const struct {
     const char *name;
     void (*run)(const char *parent);
 } scenarios[] = {
     { "items come back in order", items_come_back_in_order },
     { "a full log refuses and tells", a_full_log_refuses_and_tells },
+    { "a wrap log rolls", a_wrap_log_rolls },
     { "a block keeps the calls of others", a_block_keeps_the_calls_of_others },
     { "a hundred thousand items pipelined", a_hundred_thousand_items_pipelined },
     { "what was synced stays after a kill", what_was_synced_stays_after_a_kill },
+    { "what is no request is told", what_is_no_request_is_told },
+    { "many clients stop in order", many_clients_stop_in_order },
 };
 
 int main(int count, char **words)

@@ -1,3 +1,4 @@
 pub mod Fronts
 pub mod Chains
 pub mod Streams
+pub mod Flushes

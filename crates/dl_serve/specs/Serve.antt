@@ -1,5 +1,5 @@
 -- A stream of frames, and what is answered.
-use Rattle.std.specs.Prelude.{◌≡◌, ◌==◌, ◌⊎◌, ℕ, List, [], ◌++◌, Option, Err, ⊤, replicate, if◌then◌else◌}
+use Rattle.std.specs.Prelude.{◌≡◌, ◌==◌, ◌⊎◌, ℕ, List, [], ◌++◌, Bool, true, false, Option, Err, ⊤, replicate, if◌then◌else◌}
 use Rattle.std.specs.Io.KnownBytes.{Appends}
 use Rattle.dl_types.specs.declared.event.Event.TheVariants as event
 use Rattle.dl_disk.specs.Disk.{DiskState}
@@ -16,6 +16,7 @@ use Rattle.dl_serve.specs.declared.stream.Ended.{Ended}
 use Rattle.dl_serve.specs.declared.stream.Ended.TheVariants as ended
 use Rattle.dl_serve.specs.declared.stream.Stop.{Stop}
 use Rattle.dl_serve.specs.declared.stream.Stop.TheVariants as stop
+use Rattle.dl_serve.specs.Event.{has_drained}
 use Rattle.dl_serve.specs.Asked.{Stage, Chain, IsAsked}
 use Rattle.dl_serve.specs.Frames.{IsLong, IsPartial, HasFrames, tag_of}
 
@@ -28,10 +29,14 @@ abbrev pub welcome_frame : ℕ → List ℕ
 welcome_frame tag = if tag == 0 then [] else frame_text (welcome_text tag VERSION FRAME_LIMIT SUSPENDED_LIMIT)
 
 module _ {D Z : Type 0} (state : D → DiskState) where
-  -- some flushes one after another, and one more, whose turn is the answer. How many is not said
+  -- a flush whose turn wrote a block, or wrote none
+  abbrev pub IsFlushed : Bool → ℕ → Stage D Z → Stage D Z → List ℕ → Type 0
+  IsFlushed drained tag old new frames = (asked : IsAsked state tag event.Flush old new frames) × (has_drained asked.outcome.reply ≡ drained)
+
+  -- flushes one after another: each of the first n wrote a block and gets no answer, and one more wrote none. With it they end, and its turn is the answer
   abbrev pub IsAllFlushed : ℕ → Stage D Z → Stage D Z → List ℕ → Type 0
   IsAllFlushed tag old new frames =
-      (n : ℕ) × (mid : Stage D Z) × (first : List ℕ) × (last : List ℕ) × Chain (IsAsked state 0) (replicate n event.Flush) old mid first × IsAsked state tag event.Flush mid new last × (frames ≡ first ++ last)
+      (n : ℕ) × (mid : Stage D Z) × Chain (λ drained. IsFlushed drained 0) (replicate n true) old mid [] × IsFlushed false tag mid new frames
 
   -- what a request does
   abbrev pub IsDone : ℕ → Ask Z → Stage D Z → Stage D Z → List ℕ → Type 0
@@ -45,7 +50,7 @@ module _ {D Z : Type 0} (state : D → DiskState) where
       ((r : Request Z) × IsRequest r × (text ≡ request_text r) × IsDone r.tag r.ask old new frames)
       ⊎ ((place : ℕ) × (request_in {Z = Z} text ≡ Err place) × (new ≡ old) × (frames ≡ frame_text (bad_text (tag_of text) place)))
 
-  -- the end: the clients leave, after which none is known, and then come flushes
+  -- the end: the clients leave, after which none is known, and then all that waits is flushed
   abbrev pub IsLeft : Stage D Z → Stage D Z → List ℕ → Type 0
   IsLeft old new frames =
       (mid : Stage D Z) × (first : List ℕ) × (last : List ℕ) × Chain (λ client. IsAsked state 0 (event.Exit client)) old.clients (record old { clients = [] }) mid first × IsAllFlushed 0 mid new last × (frames ≡ first ++ last)

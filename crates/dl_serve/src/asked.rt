@@ -6,7 +6,7 @@ ghost use Rattle.dl_serve.specs.Event.{is_suspended, may_wake};
 ghost use Rattle.dl_serve.specs.Asked.{AreMade, Wakes, IsAsked, kept_of, outcome_frames, will_wait, with_waiting};
 ghost use Rattle.dl_serve.specs.Session.{stage_of};
 
-use crate::event::{has_drained, is_suspended, joiner_of, may_wake};
+use crate::event::{is_suspended, joiner_of, may_wake};
 use crate::fault::ServeFault;
 use crate::session::{Session, add_client, push_outcome};
 use crate::waiting::Waiting;
@@ -19,14 +19,13 @@ use std::collections::VecDeque;
 use std::mem;
 
 impl<A: Allocator + Copy> Session<A> {
-    /// Does an event, and adds the frames of its answer, of its notices, and of the calls that are made again. Tells whether a
-    /// block was written.
+    /// Does an event, and adds the frames of its answer, of its notices, and of the calls that are made again.
     pub fn ask<D: Disk + Drop>(
         &mut self,
         tag: u32,
         event: Event<A>,
         hub: &mut Hub<D, A>,
-    ) -> Result<bool, ServeFault>
+    ) -> Result<(), ServeFault>
         ensures { OnOk result ((frames : List ℕ) × IsAsked D.state tag event (stage_of hub.old self.old) (stage_of hub.new self.new) frames × (self.new.frames.items ≡ self.old.frames.items ++ frames)) }
     {
         add_client(&mut self.clients, joiner_of(&event))?;
@@ -34,11 +33,16 @@ impl<A: Allocator + Copy> Session<A> {
         let outcome = hub.apply(&event);
         self.answer(tag, event, &outcome)?;
         self.wake(wakes, hub)?;
-        Ok(has_drained(&outcome.reply))
+        Ok(())
     }
 
-    // Adds the frames of the first outcome of an event, which waits if it was suspended and has room.
-    fn answer(&mut self, tag: u32, event: Event<A>, outcome: &Outcome<A>) -> Result<(), ServeFault>
+    /// Adds the frames of the first outcome of an event, which waits if it was suspended and has room.
+    pub fn answer(
+        &mut self,
+        tag: u32,
+        event: Event<A>,
+        outcome: &Outcome<A>,
+    ) -> Result<(), ServeFault>
         ensures waiting { OnOk result (self.new.waiting.items ≡ with_waiting (will_wait outcome.now self.old.waiting.items) tag event self.old.waiting.items) }
         ensures frames { OnOk result (self.new.frames.items ≡ self.old.frames.items ++ outcome_frames (will_wait outcome.now self.old.waiting.items) tag outcome.now) }
         ensures clients { self.new.clients.items ≡ self.old.clients.items }

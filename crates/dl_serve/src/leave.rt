@@ -1,33 +1,21 @@
 // Blocks that are written, and clients that leave.
-ghost use Rattle.std.specs.Prelude.{◌≡◌, ◌++◌, ℕ, List, OnOk, replicate};
+ghost use Rattle.std.specs.Prelude.{◌≡◌, ◌++◌, ℕ, List, OnOk};
 ghost use Rattle.dl_types.specs.declared.event.Event.TheVariants as event;
 ghost use Rattle.dl_serve.specs.Asked.{Chain, IsAsked};
 ghost use Rattle.dl_serve.specs.Serve.{IsAllFlushed, IsLeft};
 ghost use Rattle.dl_serve.specs.Session.{stage_of};
 
+use crate::event::has_drained;
 use crate::fault::ServeFault;
 use crate::session::Session;
 use dl_disk::Disk;
 use dl_hub::Hub;
-use dl_types::{BLOCKS_LIMIT, ClientId, Event};
+use dl_types::{ClientId, Event};
 use std::alloc::Allocator;
 use std::mem;
 
 impl<A: Allocator + Copy> Session<A> {
-    // Writes blocks, until a turn writes none or as many were written as a cache can have.
-    fn flush_some<D: Disk + Drop>(&mut self, hub: &mut Hub<D, A>) -> Result<(), ServeFault>
-        ensures { OnOk result ((n : ℕ) × (frames : List ℕ) × Chain (IsAsked D.state 0) (replicate n event.Flush) (stage_of hub.old self.old) (stage_of hub.new self.new) frames × (self.new.frames.items ≡ self.old.frames.items ++ frames)) }
-    {
-        for _ in 0..BLOCKS_LIMIT {
-            let more = self.ask(0, Event::Flush, hub)?;
-            if !more {
-                return Ok(());
-            }
-        }
-        Ok(())
-    }
-
-    /// Writes all that waits. The answer is the turn of one block more.
+    /// Writes blocks, the oldest first, until a turn writes none: nothing waits, or the device fails. That turn is the answer.
     pub fn flush_all<D: Disk + Drop>(
         &mut self,
         tag: u32,
@@ -35,9 +23,13 @@ impl<A: Allocator + Copy> Session<A> {
     ) -> Result<(), ServeFault>
         ensures { OnOk result ((frames : List ℕ) × IsAllFlushed D.state tag (stage_of hub.old self.old) (stage_of hub.new self.new) frames × (self.new.frames.items ≡ self.old.frames.items ++ frames)) }
     {
-        self.flush_some(hub)?;
-        self.ask(tag, Event::Flush, hub)?;
-        Ok(())
+        loop {
+            let turn = hub.apply(&Event::Flush);
+            if !has_drained(&turn.reply) {
+                self.answer(tag, Event::Flush, &turn)?;
+                return Ok(());
+            }
+        }
     }
 
     // Has clients leave, one after another.

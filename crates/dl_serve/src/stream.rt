@@ -183,10 +183,7 @@ impl<A: Allocator + Copy> Session<A> {
                 self.welcome(tag)?;
                 Ok(())
             }
-            Ask::Event(event) => {
-                self.ask(tag, event, hub)?;
-                Ok(())
-            }
+            Ask::Event(event) => self.ask(tag, event, hub),
             Ask::All => self.flush_all(tag, hub),
         }
     }

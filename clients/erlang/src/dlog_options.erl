@@ -1,0 +1,80 @@
+%% The options of an open, as disk_log has them.
+-module(dlog_options).
+
+-export([read/1, base_of/1, wire_name/1, to_wire/1, from_wire/1]).
+
+%% A file of dlog begins with 16 bytes and one of disk_log with 8; an item takes as many in both.
+-define(MORE_BYTES, 8).
+-define(LONGEST, 64).
+
+%% The options as a map, with what is not given as disk_log takes it.
+read(Options) when is_list(Options) ->
+    case read(Options, #{}) of
+        #{name := Name} = Given ->
+            Default = #{linkto => self(), repair => true, type => halt, size => none, head => none,
+                        mode => read_write, notify => false, file => lists:flatten(io_lib:format("~tw.LOG", [Name]))},
+            whole(Options, maps:merge(Default, Given), maps:is_key(file, Given));
+        #{} -> {error, {badarg, name}};
+        Error -> Error
+    end;
+read(Options) ->
+    {error, {badarg, Options}}.
+
+whole(_, #{type := halt, size := {_, _}}, _) -> {error, {badarg, size}};
+whole(_, #{type := wrap, size := Size}, _) when is_integer(Size); Size =:= infinity -> {error, {badarg, size}};
+whole(_, #{mode := read_only, repair := truncate}, _) -> {error, {badarg, repair_read_only}};
+whole(_, Given, HasFile) -> {ok, Given#{has_file => HasFile}}.
+
+read([], Given) -> Given;
+read([Option | Rest] = Options, Given) ->
+    case is_option(Option) of
+        true -> read(Rest, with(Option, Given));
+        false -> {error, {badarg, Options}}
+    end.
+
+with({head, Head}, Given) when Head =/= none -> Given#{head => term_to_binary(Head)};
+with({Key, Value}, Given) -> Given#{Key => Value}.
+
+is_option({name, _}) -> true;
+is_option({file, File}) -> is_list(File) orelse is_atom(File) orelse is_binary(File);
+is_option({linkto, To}) -> is_pid(To) orelse To =:= none;
+is_option({repair, Repair}) -> lists:member(Repair, [true, false, truncate]);
+is_option({type, Type}) -> lists:member(Type, [halt, wrap]);
+is_option({format, Format}) -> Format =:= internal;
+is_option({size, infinity}) -> true;
+is_option({size, {Bytes, Files}}) -> is_integer(Bytes) andalso is_integer(Files) andalso Bytes > 0 andalso Files > 0;
+is_option({size, Bytes}) -> is_integer(Bytes) andalso Bytes > 0;
+is_option({notify, Notify}) -> is_boolean(Notify);
+is_option({head, _}) -> true;
+is_option({mode, Mode}) -> lists:member(Mode, [read_write, read_only]);
+is_option({quiet, Quiet}) -> is_boolean(Quiet);
+is_option(_) -> false.
+
+to_wire(infinity) -> infinity;
+to_wire({Bytes, Files}) -> {Bytes + ?MORE_BYTES, Files};
+to_wire(Bytes) -> Bytes + ?MORE_BYTES.
+
+from_wire(infinity) -> infinity;
+from_wire({Bytes, Files}) -> {Bytes - ?MORE_BYTES, Files};
+from_wire(Bytes) -> Bytes - ?MORE_BYTES.
+
+%% What the files of dlog for this file of disk_log are called, without their endings.
+base_of(File) ->
+    in_letters(filename:rootname(filename:basename(iolist_to_binary(io_lib:format("~ts", [File]))), <<".LOG">>)).
+
+%% The name of a log, which may be any term, as the server knows it.
+wire_name(Log) ->
+    Name = in_letters(unicode:characters_to_binary(io_lib:format("~tw", [Log]))),
+    case byte_size(Name) =< ?LONGEST of
+        true -> Name;
+        false -> <<"--", << <<(hex_digit(Half))>> || <<Half:4>> <= erlang:md5(Name) >>/binary>>
+    end.
+
+%% Each byte that is no letter, digit or _ as - and two digits.
+in_letters(Text) ->
+    << <<(letter(Byte))/binary>> || <<Byte>> <= Text >>.
+
+letter(Byte) when Byte >= $a, Byte =< $z; Byte >= $A, Byte =< $Z; Byte >= $0, Byte =< $9; Byte =:= $_ -> <<Byte>>;
+letter(Byte) -> <<$-, (hex_digit(Byte div 16)), (hex_digit(Byte rem 16))>>.
+
+hex_digit(Half) -> element(Half + 1, list_to_tuple("0123456789abcdef")).

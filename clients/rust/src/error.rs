@@ -1,0 +1,117 @@
+//! What keeps a call from its answer.
+
+use crate::parts::Size;
+use std::fmt;
+use std::io;
+
+const REFUSALS: [&str; 26] = [
+    "",
+    "bad_arg",
+    "no_such_log",
+    "name_already_open",
+    "arg_mismatch",
+    "size_mismatch",
+    "open_read_write",
+    "open_read_only",
+    "file_in_use",
+    "no_file",
+    "not_a_log_file",
+    "invalid_index_file",
+    "need_repair",
+    "read_only_mode",
+    "full",
+    "blocked_log",
+    "not_blocked",
+    "not_blocked_by_pid",
+    "halt_log",
+    "new_size_too_small",
+    "same_file_name",
+    "stale_continuation",
+    "end_of_log",
+    "corrupt_log_file",
+    "device_fault",
+    "exhausted",
+];
+
+/// Why the server refused a call, by the number that docs/SCRIPTS.md has for it, and what it speaks of.
+#[derive(Clone, Debug, PartialEq, Eq)]
+pub enum Refused {
+    Plain(u8),
+    /// 1, 4: an argument.
+    Argument(u8, &'static str),
+    /// 5: the size of the log, and the one that was asked for.
+    Sizes {
+        old: Size,
+        new: Size,
+    },
+    /// 8: the log that has the base.
+    Log(String),
+    /// 10, 24: a file.
+    File(u8, String),
+    /// 19: the bytes that the log has.
+    Bytes(u64),
+    /// 23: the number of a file.
+    Number(u32),
+}
+
+impl Refused {
+    pub fn number(&self) -> u8 {
+        match self {
+            Refused::Plain(number) | Refused::Argument(number, _) | Refused::File(number, _) => {
+                *number
+            }
+            Refused::Sizes { .. } => 5,
+            Refused::Log(_) => 8,
+            Refused::Bytes(_) => 19,
+            Refused::Number(_) => 23,
+        }
+    }
+}
+
+impl fmt::Display for Refused {
+    fn fmt(&self, out: &mut fmt::Formatter<'_>) -> fmt::Result {
+        let number = self.number();
+        let name = REFUSALS.get(usize::from(number)).unwrap_or(&"");
+        write!(out, "E{number} {name}")
+    }
+}
+
+#[derive(Debug)]
+pub enum Error {
+    /// The server refused the call.
+    Refused(Refused),
+    /// The server could not read the request; the first wrong part of its text begins there.
+    NoRequest(u32),
+    /// A block keeps the call off, and too many calls wait already.
+    Suspended,
+    /// The server was refused memory, and did nothing.
+    NoMemory,
+    /// The server has ended.
+    Gone,
+    /// An answer is of no form of version 1.
+    Form,
+    /// The program could not be started.
+    Start(io::Error),
+}
+
+impl From<io::Error> for Error {
+    fn from(error: io::Error) -> Error {
+        Error::Start(error)
+    }
+}
+
+impl fmt::Display for Error {
+    fn fmt(&self, out: &mut fmt::Formatter<'_>) -> fmt::Result {
+        match self {
+            Error::Refused(refused) => write!(out, "{refused}"),
+            Error::NoRequest(place) => write!(out, "no request from byte {place} on"),
+            Error::Suspended => write!(out, "suspended"),
+            Error::NoMemory => write!(out, "out of memory"),
+            Error::Gone => write!(out, "the server has ended"),
+            Error::Form => write!(out, "an answer is of no form"),
+            Error::Start(error) => write!(out, "the server could not be started: {error}"),
+        }
+    }
+}
+
+impl std::error::Error for Error {}

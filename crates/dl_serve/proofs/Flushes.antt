@@ -1,0 +1,73 @@
+-- Flushes one after another.
+use Rattle.std.proofs.Common.{◌≡◌, ◌<◌, ℕ, suc, List, [], ◌∷◌, Bool, true, false, true≢false, ◌&&◌, nat_lt, Some, length, drop, replicate, refl, sym, ap, subst, ◌∙◌, append-nil, arith}
+use Rattle.std.specs.List.{flat_map}
+use Rattle.dl_types.specs.Notice.{Told}
+use Rattle.dl_types.specs.declared.event.Event.TheVariants as event
+use Rattle.dl_types.specs.declared.reply.Outcome.{Outcome}
+use Rattle.dl_types.specs.declared.reply.Reply.TheVariants as reply
+use Rattle.dl_types.specs.declared.reply.Turn.{Turn}
+use Rattle.dl_types.specs.declared.reply.Turn.TheVariants as turn
+use Rattle.dl_cache.specs.declared.chain.Chain as cache
+use Rattle.dl_cache.specs.Entries.{Entry, oldest_of}
+use Rattle.dl_disk.specs.Disk.{DiskState}
+use Rattle.std.proofs.lemmas.Option.{none-some}
+use Rattle.dl_hub.specs.View.{HubView}
+use Rattle.dl_hub.specs.Flush.{IsTurnOf}
+use Rattle.dl_hub.specs.Step.{IsStep}
+use Rattle.dl_wire.specs.declared.limits.TheConstants.{SUSPENDED_LIMIT}
+use Rattle.dl_serve.specs.Event.{has_drained, is_suspended}
+use Rattle.dl_serve.specs.Asked.{Stage, Chain, IsAsked, notice_frame, outcome_frames, will_wait, with_waiting}
+use Rattle.dl_serve.specs.Serve.{IsFlushed}
+use Rattle.dl_serve.proofs.Chains.{chain_more, replicate_more}
+
+-- without its first entry a cache has fewer
+shorter : (old new : List Entry) (c : cache.Chain) → oldest_of old ≡ Some c → new ≡ drop 1 old → length new < length old
+shorter [] new c none is = absurd (none-some c none)
+shorter (e ∷ es) new c some is = let len = ap length is in omega (arith, len)
+
+module _ {D : Type 0} (Z : Type 0) (state : D → DiskState) where
+  drains : (old new : HubView D) (t : Turn) → IsTurnOf state old new t → has_drained {Z = Z} (reply.Turn t) ≡ true → length new.cache.entries < length old.cache.entries
+  drains old new (turn.Drained L) is wrote = shorter old.cache.entries new.cache.entries is.0.0 is.0.1 is.1
+  drains old new turn.Idle is none = absurd (true≢false (sym none))
+  drains old new (turn.Fault L) is none = absurd (true≢false (sym none))
+
+module _ {D Z : Type 0} (state : D → DiskState) where
+  -- a turn that wrote a block has left one fewer
+  pub fewer : (old new : HubView D) (o : Outcome Z) → IsStep state old new event.Flush o → has_drained o.reply ≡ true → length new.cache.entries < length old.cache.entries
+  fewer old new o step wrote =
+      let t = step.turn refl in
+      drains Z state old new t.0 t.2 (sym (ap has_drained t.1) ∙ wrote)
+
+  -- no block suspends a flush
+  goes_on : (old new : HubView D) (o : Outcome Z) → IsStep state old new event.Flush o → is_suspended o.reply ≡ false
+  goes_on old new o step = ap is_suspended (step.turn refl).1
+
+  -- a flush calls no waiting call up
+  pub flush_asked : (tag : ℕ) (old new : Stage D Z) (o : Outcome Z) → IsStep state old.hub new.hub event.Flush o
+      → new.waiting ≡ with_waiting (will_wait o old.waiting) tag event.Flush old.waiting → new.clients ≡ old.clients
+      → (drained : Bool) → has_drained o.reply ≡ drained → IsFlushed state drained tag old new (outcome_frames (will_wait o old.waiting) tag o)
+  flush_asked tag old new o step waiting clients drained is =
+      let asked : IsAsked state tag event.Flush old new (outcome_frames (will_wait o old.waiting) tag o) = record {
+        outcome = o;
+        mid = new.hub;
+        woken = [];
+        step = step;
+        wakes = (refl, waiting, refl);
+        clients = clients;
+        whole = sym (append-nil (outcome_frames (will_wait o old.waiting) tag o));
+      } in (asked, is)
+
+  -- one that asks for no answer gets none
+  pub flush_unasked : (old new : Stage D Z) (o : Outcome Z) → IsStep state old.hub new.hub event.Flush o → new.waiting ≡ old.waiting → new.clients ≡ old.clients
+      → has_drained o.reply ≡ true → IsFlushed state true 0 old new []
+  flush_unasked old new o step waiting clients is =
+      let waits : will_wait o old.waiting ≡ false = ap (λ (b : Bool). b && nat_lt (length old.waiting) SUSPENDED_LIMIT) (goes_on old.hub new.hub o step) in
+      let stays = waiting ∙ sym (ap (λ (b : Bool). with_waiting b 0 event.Flush old.waiting) waits) in
+      let silent : outcome_frames (will_wait o old.waiting) 0 o ≡ [] = ap (λ (b : Bool). outcome_frames b 0 o) waits ∙ ap (λ (ns : List Told). flat_map notice_frame ns) (step.unheard refl) in
+      subst (λ (f : List ℕ). IsFlushed state true 0 old new f) silent (flush_asked 0 old new o step stays clients true is)
+
+  -- one more of the flushes that wrote a block
+  pub flushed_more : (n : ℕ) (old mid new : Stage D Z) → Chain (λ drained. IsFlushed state drained 0) (replicate n true) old mid [] → IsFlushed state true 0 mid new []
+      → Chain (λ drained. IsFlushed state drained 0) (replicate (suc n) true) old new []
+  flushed_more n old mid new chain step =
+      subst (λ (l : List Bool). Chain (λ drained. IsFlushed state drained 0) l old new []) (replicate_more n true) (chain_more (λ drained. IsFlushed state drained 0) (replicate n true) old mid new [] true [] chain step)
