@@ -2,7 +2,7 @@
 _dlog() {
     local word=${COMP_WORDS[COMP_CWORD]} command=${COMP_WORDS[1]} options=
     if [ "$COMP_CWORD" -eq 1 ]; then
-        mapfile -t COMPREPLY < <(compgen -W 'append dump tail check digest list info repair run serve help --help --version' -- "$word")
+        mapfile -t COMPREPLY < <(compgen -W 'append dump tail check digest list info repair run threads serve help --help --version' -- "$word")
         return
     fi
     case $command in
@@ -14,8 +14,8 @@ _dlog() {
         digest) options='--help' ;;
         info) options='--kind --json --help' ;;
         repair) options='--kind --dry-run --keep-bad --yes --help' ;;
-        run | serve) options='--folder --blocks --unsynced-rolls --help' ;;
-        help) options='append dump tail check digest list info repair run serve' ;;
+        run | threads | serve) options='--folder --blocks --unsynced-rolls --help' ;;
+        help) options='append dump tail check digest list info repair run threads serve' ;;
     esac
     case $word in
         -*) mapfile -t COMPREPLY < <(compgen -W "$options" -- "$word") ;;

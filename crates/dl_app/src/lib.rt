@@ -15,6 +15,9 @@ mod script;
 mod verbs;
 mod words;
 
+pub use call::call_of;
+pub use command::{Command, Request, command_of, is_passed_over};
 pub use fault::ScriptFault;
 pub use law::a_script_is_a_run;
-pub use script::run_script;
+pub use places::Places;
+pub use script::{LINE_LIMIT, LINES_LIMIT, run_script};

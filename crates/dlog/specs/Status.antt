@@ -1,5 +1,5 @@
 -- The statuses that the program ends with.
-use Rattle.std.specs.Prelude.{ℕ, List, [], ◌∷◌, Option, Some, None, Result, Ok, Err}
+use Rattle.std.specs.Prelude.{ℕ, Bool, true, false, List, [], ◌∷◌, Option, Some, None, Result, Ok, Err}
 use Rattle.dl_tool.specs.declared.finding.Finding.{Finding}
 use Rattle.dl_tool.specs.declared.finding.Finding.TheVariants as finding
 use Rattle.dl_tool.specs.declared.report.Health.{Health}
@@ -24,6 +24,12 @@ status_of OutOfMemory = 1
 abbrev pub status_after : Result (Unit {0}) ScriptFault → ℕ
 status_after (Ok done) = 0
 status_after (Err fault) = status_of fault
+
+-- 0 if all of it was run, and it is settled
+abbrev pub settled_status : Result Bool ScriptFault → ℕ
+settled_status (Ok true) = 0
+settled_status (Ok false) = 1
+settled_status (Err fault) = status_of fault
 
 -- how logs stand: 0 if all are clean, 1 if one is not, and 3 if one could not be read
 abbrev pub health_status : Health → ℕ

@@ -17,6 +17,7 @@ mod kept;
 mod repair;
 mod serve;
 mod tail;
+mod threads;
 mod watched;
 
 use anyhow::Result;
@@ -59,6 +60,7 @@ fn main(rt: HostRuntime) -> Result<ExitCode> {
         Err(error) => return Ok(show(&rt, &error)),
     };
     match matches.subcommand() {
+        Some(("threads", options)) => Ok(threads::run(&rt, &rt, options)),
         Some((name, options)) => Ok(run_command(&rt, name, options)),
         None => Ok(ExitCode::from(MISUSED)),
     }
@@ -97,7 +99,8 @@ fn command<'a>(alloc: Global) -> Result<Command<'a>, AllocError> {
         .version("0.1.0")
         .about("A server of logs that keep their items in order and give them back in chunks")
         .subcommand_required(true)
-        .subcommand(run_words(alloc)?)?;
+        .subcommand(run_words(alloc)?)?
+        .subcommand(threads::command(alloc)?)?;
     with_work(alloc, with_reports(alloc, command)?)
 }
 

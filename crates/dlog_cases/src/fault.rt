@@ -60,6 +60,8 @@ pub enum CaseFault {
     NoText,
     #[error("the script ended: {0}")]
     Script(ScriptFault),
+    #[error("its clients did not have what the history has")]
+    NotSettled,
     #[error("no hub: {0}")]
     Hub(Fail),
     #[error("the folder of the case failed")]
@@ -91,6 +93,9 @@ impl From<io::Error> for CaseFault {
 pub enum How {
     Memory,
     Folder,
+    /// With a thread for each client.
+    MemoryThreads,
+    FolderThreads,
     /// One of its logs alone, in memory.
     Alone(Option<Name>),
     /// In memory, with a device that fails after `calls` calls on the files of a base.
@@ -128,6 +133,8 @@ impl fmt::Display for How {
         match self {
             How::Memory => f.write_str("in memory"),
             How::Folder => f.write_str("in a folder"),
+            How::MemoryThreads => f.write_str("in memory with threads"),
+            How::FolderThreads => f.write_str("in a folder with threads"),
             How::Alone(None) => f.write_str("a log alone"),
             How::Alone(Some(log)) => write!(f, "log {log} alone"),
             How::Failing { base, calls, fuse } => {

@@ -39,8 +39,8 @@ fn run_lives(
     Ok(())
 }
 
-// Lays down the files of a hub in a folder.
-fn lay_in_folder(rt: &HostRuntime, life: &[Step<'_>], path: Path<'_>) -> Result<(), CaseFault> {
+/// Lays down the files of a hub in a folder.
+pub fn lay_in_folder(rt: &HostRuntime, life: &[Step<'_>], path: Path<'_>) -> Result<(), CaseFault> {
     for step in life {
         if let Step::File(file) = step {
             let name = file.name.to_string(rt.alloc())?;
@@ -138,8 +138,8 @@ fn work_in_folder(
     job.work(rt.alloc(), &mut hub, log)
 }
 
-// The disk over a folder.
-fn open_folder(rt: &HostRuntime, path: Path<'_>) -> Result<FolderDisk<HostRuntime>, CaseFault> {
+/// The disk over a folder.
+pub fn open_folder(rt: &HostRuntime, path: Path<'_>) -> Result<FolderDisk<HostRuntime>, CaseFault> {
     let own = rt.clone()?;
     FolderDisk::open(own, path.as_str()).map_err(|fault| match fault {
         OpenFault::InUse | OpenFault::Device => CaseFault::Folder,

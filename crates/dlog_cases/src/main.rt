@@ -13,6 +13,7 @@ mod spoil;
 mod stops;
 mod suite;
 mod sweep;
+mod threads;
 mod told;
 mod tools;
 mod trial;
@@ -20,6 +21,9 @@ mod trial;
 use fault::Stop;
 use std::env;
 use std::process::ExitCode;
+use std::sync::Wait;
+use std::thread::Threads;
+use std::time::Clock;
 use suite::{Tally, run_suite};
 
 const HELP: &str =
@@ -32,7 +36,7 @@ Usage: dlog_cases DIR
   -V, --version  Print version";
 
 fn main(rt: HostRuntime) -> ExitCode {
-    match run(&rt) {
+    match run(&rt, &rt) {
         Ok(true) => ExitCode::SUCCESS,
         Ok(false) => ExitCode::FAILURE,
         Err(stop) => tell(&rt, stop),
@@ -48,23 +52,27 @@ fn tell(rt: &HostRuntime, stop: Stop) -> ExitCode {
     }
 }
 
-// Reads the one word after the name of the program.
-fn run(rt: &HostRuntime) -> Result<bool, Stop> {
+// Reads the one word after the name of the program. The handle starts the threads of the cases.
+fn run<T: Threads + Wait + Clock + Sync>(rt: &HostRuntime, handle: &T) -> Result<bool, Stop> {
     let mut words = env::args(rt).map_err(|_| Stop::Misused)?.skip(1);
     match (words.next(), words.next()) {
-        (Some(word), None) => run_word(rt, word.as_str()),
+        (Some(word), None) => run_word(rt, handle, word.as_str()),
         _ => Err(Stop::Misused),
     }
 }
 
 // Does what a word asks for, and returns whether no case failed.
-fn run_word(rt: &HostRuntime, word: &str) -> Result<bool, Stop> {
+fn run_word<T: Threads + Wait + Clock + Sync>(
+    rt: &HostRuntime,
+    handle: &T,
+    word: &str,
+) -> Result<bool, Stop> {
     let mut tally = Tally::default();
     match word {
         "-h" | "--help" => println!(rt; "{HELP}")?,
         "-V" | "--version" => println!(rt; "dlog_cases 0.1.0")?,
         _ if word.starts_with('-') => return Err(Stop::Misused),
-        folder => run_suite(rt, folder, &mut tally)?,
+        folder => run_suite(rt, handle, folder, &mut tally)?,
     }
     Ok(tally.failed == 0)
 }

@@ -73,8 +73,8 @@ fn run_alone(
     live_in_memory(alloc, files, own.as_slice(), &mut left, trial)
 }
 
-// Runs a hub on a copy of these files, and puts the files that it and the commands after it leave in the place of `left`.
-fn live_in_memory(
+/// Runs a hub on a copy of these files, and puts the files that it and the commands after it leave in the place of `left`.
+pub fn live_in_memory(
     alloc: Global,
     files: &MemoryDisk,
     life: &[Step<'_>],
@@ -104,8 +104,17 @@ fn memory_hub(
     life: &[Step<'_>],
     blocks: u32,
 ) -> Result<MemoryHub, CaseFault> {
+    Hub::new(alloc, disk_under(alloc, files, life)?, blocks).map_err(CaseFault::Hub)
+}
+
+/// A disk with a copy of these files and of those that the steps lay down, which fails as the steps say.
+pub fn disk_under(
+    alloc: Global,
+    files: &MemoryDisk,
+    life: &[Step<'_>],
+) -> Result<FuseDisk<MemoryDisk>, CaseFault> {
     let files = laid(alloc, files, life)?;
-    hub_over(alloc, files, failure_in(life), blocks)
+    Ok(fused(alloc, files, failure_in(life)))
 }
 
 /// A hub on these files whose device fails so.

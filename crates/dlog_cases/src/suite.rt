@@ -6,36 +6,49 @@ use crate::memory::run_in_memory;
 use crate::spoil::run_spoils;
 use crate::stops::run_stops;
 use crate::sweep::run_sweeps;
+use crate::threads::run_with_threads;
 use crate::trial::Trial;
 use std::path::{Path, PathBuf};
+use std::sync::Wait;
+use std::thread::Threads;
+use std::time::Clock;
 use std::{env, fs, io, process};
 
 // What the name of a case's file ends in.
 const ENDING: &str = ".case";
 
-/// How many cases were run, with how many answers and how many logs alone, and how many cases failed.
+/// How many cases were run, with how many answers, how many logs alone and how many scripts with threads, and how many cases failed.
 #[derive(Clone, Copy, Default)]
 pub struct Tally {
     pub cases: u64,
     pub answers: u64,
     pub logs: u64,
+    pub settled: u64,
     pub failed: u64,
 }
 
 /// Runs all cases of a folder in the order of their names, and prints a line for each and one for all.
-pub fn run_suite(rt: &HostRuntime, folder: &str, tally: &mut Tally) -> io::Result<()> {
+pub fn run_suite<T: Threads + Wait + Clock + Sync>(
+    rt: &HostRuntime,
+    handle: &T,
+    folder: &str,
+    tally: &mut Tally,
+) -> io::Result<()> {
     let names = case_names(rt, folder)?;
     let room = room_of(rt)?;
     for name in &names {
-        run_file(rt, folder, name.as_str(), room.as_path(), tally)?;
+        run_file(rt, handle, folder, name.as_str(), room.as_path(), tally)?;
     }
     let Tally {
         cases,
         answers,
         logs,
+        settled,
         failed,
     } = *tally;
-    println!(rt; "{cases} cases, {answers} answers, {logs} logs alone, {failed} failed")
+    println!(rt;
+        "{cases} cases, {answers} answers, {logs} logs alone, {settled} with threads, {failed} failed"
+    )
 }
 
 // The folder in which the folders of the cases are made, one after another.
@@ -59,8 +72,9 @@ fn case_names(rt: &HostRuntime, folder: &str) -> io::Result<Vec<String>> {
 }
 
 // Runs the case of a file, and prints what became of it.
-fn run_file(
+fn run_file<T: Threads + Wait + Clock + Sync>(
     rt: &HostRuntime,
+    handle: &T,
     folder: &str,
     name: &str,
     room: Path<'_>,
@@ -71,9 +85,10 @@ fn run_file(
         blocks: 0,
         how: How::Memory,
         logs: 0,
+        settled: 0,
         told: String::new(rt.alloc()),
     };
-    let ran = run_case(rt, text.as_str(), room, &mut trial);
+    let ran = run_case(rt, handle, text.as_str(), room, &mut trial);
     tell(
         rt,
         name.strip_suffix(ENDING).unwrap_or(name),
@@ -101,13 +116,15 @@ fn tell(
         blocks,
         how,
         logs,
+        settled,
         told,
     } = trial;
     match ran {
         Ok(answers) => {
             tally.answers = tally.answers.saturating_add(answers);
             tally.logs = tally.logs.saturating_add(*logs);
-            println!(rt; "{title}: {answers} answers, {logs} logs alone")
+            tally.settled = tally.settled.saturating_add(*settled);
+            println!(rt; "{title}: {answers} answers, {logs} logs alone, {settled} with threads")
         }
         Err(fault) => {
             tally.failed = tally.failed.saturating_add(1);
@@ -117,8 +134,9 @@ fn tell(
 }
 
 // Runs a case, and returns how many answers it has.
-fn run_case(
+fn run_case<T: Threads + Wait + Clock + Sync>(
     rt: &HostRuntime,
+    handle: &T,
     text: &str,
     room: Path<'_>,
     trial: &mut Trial,
@@ -127,19 +145,21 @@ fn run_case(
     let blocks = blocks_of(rt.alloc(), steps.as_slice())?;
     for number in &blocks {
         trial.blocks = *number;
-        run_steps(rt, steps.as_slice(), room, trial)?;
+        run_steps(rt, handle, steps.as_slice(), room, trial)?;
     }
     Ok(count_answers(steps.as_slice()))
 }
 
-// Runs the steps of a case in memory, under each failure of its sweeps, stopped at each call, over spoilt files, and in a folder if its
-// device does not fail.
-fn run_steps(
+// Runs the steps of a case with threads, in memory, under each failure of its sweeps, stopped at each call, over spoilt files, and in a
+// folder if its device does not fail.
+fn run_steps<T: Threads + Wait + Clock + Sync>(
     rt: &HostRuntime,
+    handle: &T,
     steps: &[Step<'_>],
     room: Path<'_>,
     trial: &mut Trial,
 ) -> Result<(), CaseFault> {
+    run_with_threads(rt, handle, steps, room, trial)?;
     run_in_memory(rt.alloc(), steps, trial)?;
     run_sweeps(rt.alloc(), steps, trial)?;
     run_stops(rt.alloc(), steps, trial)?;

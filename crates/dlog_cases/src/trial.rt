@@ -8,6 +8,8 @@ pub struct Trial {
     pub how: How,
     /// How many logs were run alone.
     pub logs: u64,
+    /// How many scripts were run with threads.
+    pub settled: u64,
     /// What was wanted and what came, if an answer differs.
     pub told: String,
 }

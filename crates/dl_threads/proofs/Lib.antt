@@ -1,0 +1,5 @@
+pub mod Slices
+pub mod Commands
+pub mod Played
+pub mod Promised
+pub mod Told
