@@ -12,7 +12,8 @@ use dl_tool::{
     logs_named,
 };
 use dl_types::{Base, FileName, Item, Kind, Name, Size};
-use std::alloc::{AllocError, Global};
+use std::alloc::Global;
+use std::io;
 use std::io::Write;
 
 /// Reports on a disk if the command does that, or returns the log that the command works on.
@@ -82,7 +83,7 @@ fn tell_file(
     word: &str,
     why: &str,
     output: &mut Vec<u8>,
-) -> Result<(), AllocError> {
+) -> io::Result<()> {
     match style {
         Style::Line => writeln!(output, "{file} {word}: {why}"),
         Style::Json => writeln!(output, "{{\"file\":\"{file}\",\"state\":\"{word}\"}}"),
