@@ -145,21 +145,20 @@ fn run_case<T: Threads + Wait + Clock + Sync>(
     let blocks = blocks_of(rt.alloc(), steps.as_slice())?;
     for number in &blocks {
         trial.blocks = *number;
-        run_steps(rt, handle, steps.as_slice(), room, trial)?;
+        run_steps(rt, steps.as_slice(), room, trial)?;
     }
+    run_with_threads(rt, handle, steps.as_slice(), room, blocks.as_slice(), trial)?;
     Ok(count_answers(steps.as_slice()))
 }
 
-// Runs the steps of a case with threads, in memory, under each failure of its sweeps, stopped at each call, over spoilt files, and in a
-// folder if its device does not fail.
-fn run_steps<T: Threads + Wait + Clock + Sync>(
+// Runs the steps of a case in memory, under each failure of its sweeps, stopped at each call, over spoilt files, and in a folder if its
+// device does not fail.
+fn run_steps(
     rt: &HostRuntime,
-    handle: &T,
     steps: &[Step<'_>],
     room: Path<'_>,
     trial: &mut Trial,
 ) -> Result<(), CaseFault> {
-    run_with_threads(rt, handle, steps, room, trial)?;
     run_in_memory(rt.alloc(), steps, trial)?;
     run_sweeps(rt.alloc(), steps, trial)?;
     run_stops(rt.alloc(), steps, trial)?;

@@ -18,22 +18,25 @@ use std::{fs, mem};
 // What is written of a script whose clients had what the history has.
 const SETTLED: &[u8] = b"settled\n";
 
-/// Runs the lines of each hub of a case with a thread for each client, in memory and, if the device does not fail, in a new folder
-/// at this path. The lines are one script, without those of no form.
+/// Runs the lines of each hub of a case with a thread for each client: in memory with the first of these numbers of blocks and, if the
+/// device does not fail, in a new folder at this path with the last one. The lines are one script, without those of no form.
 pub fn run_with_threads<T: Threads + Wait + Clock + Sync>(
     rt: &HostRuntime,
     handle: &T,
     steps: &[Step<'_>],
     path: Path<'_>,
+    blocks: &[u32],
     trial: &mut Trial,
 ) -> Result<(), CaseFault> {
     trial.settled = 0;
     trial.how = How::MemoryThreads;
+    trial.blocks = blocks.first().copied().unwrap_or(trial.blocks);
     run_lives_in_memory(handle, rt.alloc(), steps, trial)?;
     if has_failure(steps) {
         return Ok(());
     }
     trial.how = How::FolderThreads;
+    trial.blocks = blocks.last().copied().unwrap_or(trial.blocks);
     fs::create_dir(rt, path)?;
     let ran = run_lives_in_folder(rt, handle, steps, path, trial);
     fs::remove_dir_all(rt, path)?;
