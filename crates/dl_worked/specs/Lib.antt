@@ -6,3 +6,4 @@ pub mod Sets
 pub mod Wrap
 pub mod Blocks
 pub mod Sent
+pub mod Faults

@@ -4,6 +4,7 @@
 
 pub mod blocks;
 pub mod calls;
+pub mod faults;
 pub mod halt;
 pub mod heads;
 pub mod sent;
