@@ -1,5 +1,5 @@
 -- Flushes one after another.
-use Rattle.std.proofs.Common.{◌≡◌, ◌<◌, ℕ, suc, List, [], ◌∷◌, Bool, true, false, true≢false, ◌&&◌, nat_lt, Some, length, drop, replicate, refl, sym, ap, subst, ◌∙◌, append-nil, arith}
+use Rattle.std.proofs.Common.{◌≡◌, ◌<◌, inl, inr, ℕ, suc, List, [], ◌∷◌, Bool, true, false, true≢false, ◌&&◌, nat_lt, Some, length, drop, replicate, refl, sym, ap, subst, ◌∙◌, append-nil, arith}
 use Rattle.std.specs.List.{flat_map}
 use Rattle.dl_types.specs.Notice.{Told}
 use Rattle.dl_types.specs.declared.event.Event.TheVariants as event
@@ -12,7 +12,7 @@ use Rattle.dl_cache.specs.Entries.{Entry, oldest_of}
 use Rattle.dl_disk.specs.Disk.{DiskState}
 use Rattle.std.proofs.lemmas.Option.{none-some}
 use Rattle.dl_hub.specs.View.{HubView}
-use Rattle.dl_hub.specs.Flush.{IsTurnOf}
+use Rattle.dl_hub.specs.Flush.{IsTurnOf, IsTurn}
 use Rattle.dl_hub.specs.Step.{IsStep}
 use Rattle.dl_wire.specs.declared.limits.TheConstants.{SUSPENDED_LIMIT}
 use Rattle.dl_serve.specs.Event.{has_drained, is_suspended}
@@ -34,13 +34,19 @@ module _ {D : Type 0} (Z : Type 0) (state : D → DiskState) where
 module _ {D Z : Type 0} (state : D → DiskState) where
   -- a turn that wrote a block has left one fewer
   pub fewer : (old new : HubView D) (o : Outcome Z) → IsStep state old new event.Flush o → has_drained o.reply ≡ true → length new.cache.entries < length old.cache.entries
-  fewer old new o step wrote =
-      let t = step.turn refl in
-      drains Z state old new t.0 t.2 (sym (ap has_drained t.1) ∙ wrote)
+  fewer old new o step wrote = by (step.turn refl)
+    where
+      by : IsTurn state old new o.reply → length new.cache.entries < length old.cache.entries
+      by (inl t) = drains Z state old new t.0 t.2 (sym (ap has_drained t.1) ∙ wrote)
+      by (inr want) = absurd (true≢false (sym wrote ∙ ap has_drained want.0))
 
   -- no block suspends a flush
   goes_on : (old new : HubView D) (o : Outcome Z) → IsStep state old new event.Flush o → is_suspended o.reply ≡ false
-  goes_on old new o step = ap is_suspended (step.turn refl).1
+  goes_on old new o step = by (step.turn refl)
+    where
+      by : IsTurn state old new o.reply → is_suspended o.reply ≡ false
+      by (inl t) = ap is_suspended t.1
+      by (inr want) = ap is_suspended want.0
 
   -- a flush calls no waiting call up
   pub flush_asked : (tag : ℕ) (old new : Stage D Z) (o : Outcome Z) → IsStep state old.hub new.hub event.Flush o
@@ -63,7 +69,7 @@ module _ {D Z : Type 0} (state : D → DiskState) where
   flush_unasked old new o step waiting clients is =
       let waits : will_wait o old.waiting ≡ false = ap (λ (b : Bool). b && nat_lt (length old.waiting) SUSPENDED_LIMIT) (goes_on old.hub new.hub o step) in
       let stays = waiting ∙ sym (ap (λ (b : Bool). with_waiting b 0 event.Flush old.waiting) waits) in
-      let silent : outcome_frames (will_wait o old.waiting) 0 o ≡ [] = ap (λ (b : Bool). outcome_frames b 0 o) waits ∙ ap (λ (ns : List Told). flat_map notice_frame ns) (step.unheard refl) in
+      let silent : outcome_frames (will_wait o old.waiting) 0 o ≡ [] = ap (λ (b : Bool). outcome_frames b 0 o) waits ∙ ap (λ (ns : List Told). flat_map notice_frame ns) ((step.turn_told refl).silent (λ L failed. true≢false (sym is ∙ ap has_drained failed))) in
       subst (λ (f : List ℕ). IsFlushed state true 0 old new f) silent (flush_asked 0 old new o step stays clients true is)
 
   -- one more of the flushes that wrote a block
