@@ -1,6 +1,7 @@
 // The parts of a frame, each written at the end of some bytes.
-ghost use Rattle.std.specs.Prelude.{◌≡◌, ◌++◌, ◌∷◌, [], ◌≤◌, ◌<◌, ◌^◌, List, ℕ, OnOk, length};
+ghost use Rattle.std.specs.Prelude.{◌≡◌, ◌++◌, ◌∷◌, [], ◌≤◌, ◌<◌, ◌^◌, List, ℕ, Err, OnOk, length};
 ghost use Rattle.dl_types.specs.Name.{name_text, base_text};
+ghost use Rattle.dl_wire.specs.declared.fault.EncodeFault.TheVariants.{TooLong};
 ghost use Rattle.dl_wire.specs.Parts.{u16_text, u64_text, short_text, bytes_text, list_text, option_text, bool_code, kind_code, mode_code, size_text, position_text, u32_text};
 
 use crate::fault::EncodeFault;
@@ -116,7 +117,8 @@ pub fn push_some_item<A: Allocator>(
 
 /// The number of a list's parts.
 pub fn push_count<A: Allocator>(out: &mut Vec<u8, A>, count: usize) -> Result<(), EncodeFault>
-    ensures { OnOk result (out.new.items ≡ out.old.items ++ u32_text count) }
+    ensures fits { result ≡ Err TooLong → 2 ^ 32 ≤ count }
+    ensures written { OnOk result (out.new.items ≡ out.old.items ++ u32_text count) }
 {
     match u32::try_from(count) {
         Ok(count) => {
