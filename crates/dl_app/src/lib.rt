@@ -20,4 +20,4 @@ pub use command::{Command, Request, command_of, is_passed_over};
 pub use fault::ScriptFault;
 pub use law::a_script_is_a_run;
 pub use places::Places;
-pub use script::{LINE_LIMIT, LINES_LIMIT, run_script};
+pub use script::{LINE_LIMIT, LINES_LIMIT, Session, run_script};

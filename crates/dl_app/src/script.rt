@@ -2,12 +2,15 @@
 ghost use Rattle.std.specs.Prelude.{◌≡◌, ◌≢◌, ◌+◌, ◌≤◌, ◌++◌, ◌∷◌, [], ℕ, List, None, Err, IfErr, OnOk, length};
 ghost use Rattle.std.specs.List.{flat_map};
 ghost use Rattle.std.specs.Io.KnownBytes.{Appends};
+ghost use Rattle.dl_types.specs.declared.name.ClientId.{ClientId};
+ghost use Rattle.dl_types.specs.declared.name.Name.{Name};
+ghost use Rattle.dl_types.specs.declared.place.Place.TheVariants.{Start};
 ghost use Rattle.dl_lines.specs.Lines.{HasLines};
 ghost use Rattle.dl_app.specs.Answers.{hex};
 ghost use Rattle.dl_app.specs.Command.{call_in, refusal_in};
 ghost use Rattle.dl_app.specs.Places.{place_of};
 ghost use Rattle.dl_app.specs.Script.{HasNoForm, IsBadLine, IsCalled, IsLine, IsStepped, Runs, RunsOn, ShowsFile};
-ghost use Rattle.dl_app.specs.Session.{stage_of, IsAnswerFault};
+ghost use Rattle.dl_app.specs.Session.{next_of, stage_of, IsAnswerFault};
 
 use crate::answer::{push_hex, put_outcome, put_refusal};
 use crate::call::call_of;
@@ -48,25 +51,33 @@ pub fn run_script<R: BufRead, W: Write, D: Disk + Drop, A: Allocator + Copy>(
     ensures unread { result ≡ Err ScriptFault.Read → (before : List (List ℕ)) × (others : List (List ℕ)) × HasLines (R.remaining input.old) (before ++ others) × (length before ≤ LINES_LIMIT)
         × RunsOn D.state A before hub.old hub.new (W.contents output.old) (W.contents output.new) }
 {
-    let mut session = Session {
-        alloc,
-        places: Places::new(alloc),
-        text: Vec::new(alloc),
-    };
+    let mut session = Session::new(alloc);
     let ended = session.run_lines(input, output, hub);
     output.flush().map_err(|_| ScriptFault::Write)?;
     ended
 }
 
-// A script that is being run. The text is the answer to one line.
+/// A script that is run line by line: where its clients go on reading.
 #[derive(Drop)]
-struct Session<A: Allocator + Copy> {
+pub struct Session<A: Allocator + Copy> {
     alloc: A,
     places: Places<A>,
+    // The answer to one line.
     text: Vec<u8, A>,
 }
 
 impl<A: Allocator + Copy> Session<A> {
+    /// A script of which no line was run. It takes no memory.
+    pub fn new(alloc: A) -> Session<A>
+        ensures { (c : ClientId) (l : Name) → next_of result c l ≡ Start }
+    {
+        Session {
+            alloc,
+            places: Places::new(alloc),
+            text: Vec::new(alloc),
+        }
+    }
+
     // Runs the lines that the input has left.
     fn run_lines<R: BufRead, W: Write, D: Disk + Drop>(
         &mut self,
@@ -96,8 +107,9 @@ impl<A: Allocator + Copy> Session<A> {
         }
     }
 
-    // Runs the line of this number.
-    fn run_line<W: Write, D: Disk + Drop>(
+    /// Runs the line of this number, which has no line feed, on a hub, and writes its answer. A line that is not answered
+    /// for want of memory may have been run.
+    pub fn run_line<W: Write, D: Disk + Drop>(
         &mut self,
         number: u64,
         line: &[u8],

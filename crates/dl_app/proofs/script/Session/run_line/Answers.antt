@@ -2,7 +2,7 @@ use Rattle.std.proofs.Common.{rules, ◌≡◌, ◌∙◌, List, ℕ, Option, So
 use Rattle.std.specs.Io.KnownBytes.{Appends}
 use Rattle.dl_types.specs.declared.event.Event.TheVariants as event
 use Rattle.dl_app.specs.declared.command.Command.{Command}
-use Rattle.dl_app.specs.declared.command.Command.TheVariants.{Exit}
+use Rattle.dl_app.specs.declared.command.Command.TheVariants.{Exit, Flush}
 use Rattle.dl_app.specs.Command.{IsForm}
 use Rattle.dl_app.specs.Lines.{is_passed_over}
 use Rattle.dl_app.specs.Words.{words_of}
@@ -28,3 +28,18 @@ returns-in-Exit-clause-done g c =
     let asks : is_passed_over line ≡ false = sym c.is_passed_over.ensures ∙ c.if-is_passed_over.false in
     on_ok c.step.result ((answer : List ℕ) × IsStepped D.state Z (event.Exit c.in-Exit.client) old new answer × written answer) ((answer : List ℕ) × IsLine D.state Z line old new answer × written answer)
     (λ done. (done.0, inr (asks, (Exit c.in-Exit.client, form, done.1)), done.2)) c.step.ensures.done
+
+pub returns-in-Flush-clause-done : goal.returns-in-Flush-clause-done
+returns-in-Flush-clause-done g c =
+    let D = g.D.Disk in
+    let Z = g.row.A.Denot in
+    let line = c.args.line.now in
+    let step = c.step-in-Flush in
+    let old = stage_of c.args.hub.now c.args.self.now in
+    let new = stage_of step.new.hub step.new.self in
+    let written = λ (answer : List ℕ). Appends (g.W.Write.contents c.args.output.now) (g.W.Write.contents step.new.output) answer in
+    let read : c.command_of.result ≡ Some Flush = search rules in
+    let form : IsForm (words_of line) Flush = subst (λ (o : Option Command). IfSome o (λ command. IsForm (words_of line) command)) read c.command_of.ensures.form in
+    let asks : is_passed_over line ≡ false = sym c.is_passed_over.ensures ∙ c.if-is_passed_over.false in
+    on_ok step.result ((answer : List ℕ) × IsStepped D.state Z event.Flush old new answer × written answer) ((answer : List ℕ) × IsLine D.state Z line old new answer × written answer)
+    (λ done. (done.0, inr (asks, (Flush, form, done.1)), done.2)) step.ensures.done
