@@ -10,3 +10,4 @@ pub mod Copies
 pub mod Strays
 pub mod Opened
 pub mod LastItems
+pub mod Begins

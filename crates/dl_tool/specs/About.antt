@@ -8,7 +8,7 @@ use Rattle.dl_tool.specs.declared.finding.Amount.{Amount}
 use Rattle.dl_tool.specs.declared.finding.Finding.{Finding}
 use Rattle.dl_tool.specs.declared.finding.Finding.TheVariants.{Absent, Clean, Torn, Refused, Unread}
 use Rattle.dl_tool.specs.declared.line.LogFiles.{LogFiles}
-use Rattle.dl_tool.specs.Line.{kind_word, cut_text}
+use Rattle.dl_tool.specs.Line.{kind_word, whole_word, cut_text}
 
 -- a line: the name of a field, and its text
 abbrev pub field : List ℕ → List ℕ → List ℕ
@@ -18,9 +18,9 @@ field key text = key ++ codes ": " ++ text ++ 10 ∷ []
 abbrev pub log_fields : LogFiles → List ℕ
 log_fields log = field (codes "name") (characters_of (base_text log.base)) ++ field (codes "kind") (kind_word log.kind)
 
--- the size that is stored, if there is one
+-- the size that is stored, or that none is
 abbrev pub size_field : Option Size → List ℕ
-size_field None = []
+size_field None = field (codes "size") (codes "not stored")
 size_field (Some size) = field (codes "size") (size_text size)
 
 -- how much a log has
@@ -43,7 +43,7 @@ repair_text kept cut = keeps_text kept ++ cut_text cut
 -- the lines of what was found, after those of the log; nothing is said of the text of a refusal
 abbrev pub IsStateText : Finding → List ℕ → Type 0
 IsStateText Absent text = text ≡ state_field (codes "no such log")
-IsStateText (Clean a) text = text ≡ amount_fields a ++ state_field (codes "clean")
+IsStateText (Clean a) text = text ≡ amount_fields a ++ state_field (whole_word a.bad)
 IsStateText (Torn a file kept cut) text = text ≡ amount_fields a ++ state_field (repair_text kept cut)
 IsStateText (Refused refusal) text = (why : List ℕ) × (text ≡ state_field (codes "refused: " ++ why))
 IsStateText (Unread file) text = text ≡ state_field (codes "cannot read " ++ printed_file file)

@@ -8,7 +8,7 @@ use Rattle.dl_tool.specs.declared.finding.Amount.{Amount}
 use Rattle.dl_tool.specs.declared.finding.Finding.{Finding}
 use Rattle.dl_tool.specs.declared.finding.Finding.TheVariants.{Absent, Clean, Torn, Refused, Unread}
 use Rattle.dl_tool.specs.declared.line.LogFiles.{LogFiles}
-use Rattle.dl_tool.specs.Line.{kind_word}
+use Rattle.dl_tool.specs.Line.{kind_word, whole_word}
 
 -- the front of an object: the log
 abbrev pub json_log : LogFiles → List ℕ
@@ -41,8 +41,8 @@ json_field key text = codes ",\"" ++ key ++ codes "\":\"" ++ text ++ codes "\""
 
 -- the fields of what was found, after those of the log; nothing is said of the text of a refusal
 abbrev pub IsJsonText : Finding → List ℕ → Type 0
-IsJsonText Absent text = text ≡ json_state (codes "absent")
-IsJsonText (Clean a) text = text ≡ json_amount (codes "clean") a
+IsJsonText Absent text = text ≡ json_state (codes "no such log")
+IsJsonText (Clean a) text = text ≡ json_amount (whole_word a.bad) a
 IsJsonText (Torn a file kept cut) text = text ≡ json_amount (codes "needs repair") a ++ json_repair kept cut
 IsJsonText (Refused refusal) text = (why : List ℕ) × (text ≡ json_state (codes "refused") ++ json_field (codes "why") why)
 IsJsonText (Unread file) text = text ≡ json_state (codes "unread") ++ json_field (codes "file") (printed_file file)

@@ -13,3 +13,4 @@ pub mod Copy
 pub mod Named
 pub mod Stray
 pub mod Zeros
+pub mod Begin

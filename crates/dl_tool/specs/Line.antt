@@ -1,5 +1,5 @@
 -- What is found of a log, as a line.
-use Rattle.std.specs.Prelude.{◌≡◌, ℕ, List, [], ◌∷◌, ◌++◌, codes}
+use Rattle.std.specs.Prelude.{◌≡◌, ◌==◌, ℕ, List, [], ◌∷◌, ◌++◌, codes, if◌then◌else◌}
 use Rattle.std.specs.Fmt.{decimal}
 use Rattle.dl_types.specs.declared.size.Kind.{Kind}
 use Rattle.dl_types.specs.declared.size.Kind.TheVariants.{Halt, Wrap}
@@ -23,6 +23,10 @@ log_text log = characters_of (base_text log.base) ++ codes " " ++ kind_word log.
 abbrev pub amount_text : Amount → List ℕ
 amount_text a = codes "files=" ++ decimal a.files ++ codes " items=" ++ decimal a.items ++ codes " bytes=" ++ decimal a.bytes ++ codes " bad=" ++ decimal a.bad
 
+-- the word of a log that is opened as it is, by its bad bytes: those of older files stay
+abbrev pub whole_word : ℕ → List ℕ
+whole_word bad = if bad == 0 then codes "clean" else codes "damaged"
+
 -- how many items a repair would keep
 abbrev pub kept_text : ℕ → List ℕ
 kept_text kept = codes " needs repair: " ++ decimal kept ++ codes " items kept, "
@@ -34,7 +38,7 @@ cut_text cut = decimal cut ++ codes " bytes bad"
 -- a text says what was found
 abbrev pub IsFindingText : Finding → List ℕ → Type 0
 IsFindingText Absent text = text ≡ codes "no such log"
-IsFindingText (Clean a) text = text ≡ amount_text a ++ codes " clean"
+IsFindingText (Clean a) text = text ≡ amount_text a ++ codes " " ++ whole_word a.bad
 IsFindingText (Torn a file kept cut) text = text ≡ amount_text a ++ kept_text kept ++ cut_text cut
 IsFindingText (Refused refusal) text = text ≡ codes "refused: " ++ refusal_text refusal
 IsFindingText (Unread file) text = text ≡ codes "cannot read " ++ printed_file file

@@ -1,5 +1,5 @@
 -- The report on the logs of a folder.
-use Rattle.std.specs.Prelude.{◌≡◌, ℕ, List, [], ◌∷◌, ◌++◌, Bool, true, false, IsTrue, Option}
+use Rattle.std.specs.Prelude.{◌≡◌, ◌==◌, ℕ, List, [], ◌∷◌, ◌++◌, Bool, true, false, IsTrue, Option}
 use Rattle.std.specs.List.{list_all, list_any}
 use Rattle.std.specs.Io.KnownBytes.{Appends}
 use Rattle.dl_types.specs.FileName.{Content}
@@ -15,10 +15,18 @@ use Rattle.dl_tool.specs.declared.told.Style.{Style}
 use Rattle.dl_tool.specs.Finding.{IsFinding}
 use Rattle.dl_tool.specs.Told.{IsTold}
 
--- a log is clean
+-- a log is opened as it is
+abbrev pub is_opened : Finding → Bool
+is_opened finding.Absent = false
+is_opened (finding.Clean a) = true
+is_opened (finding.Torn a file kept cut) = false
+is_opened (finding.Refused refused) = false
+is_opened (finding.Unread file) = false
+
+-- and none of its files has bad bytes
 abbrev pub is_clean : Finding → Bool
 is_clean finding.Absent = false
-is_clean (finding.Clean a) = true
+is_clean (finding.Clean a) = a.bad == 0
 is_clean (finding.Torn a file kept cut) = false
 is_clean (finding.Refused refused) = false
 is_clean (finding.Unread file) = false

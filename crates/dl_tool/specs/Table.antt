@@ -8,12 +8,12 @@ use Rattle.dl_tool.specs.declared.finding.Amount.{Amount}
 use Rattle.dl_tool.specs.declared.finding.Finding.{Finding}
 use Rattle.dl_tool.specs.declared.finding.Finding.TheVariants.{Absent, Clean, Torn, Refused, Unread}
 use Rattle.dl_tool.specs.declared.table.Column.{Column}
-use Rattle.dl_tool.specs.declared.table.Column.TheVariants.{Name, Kind, Files, Items, Bytes, State}
+use Rattle.dl_tool.specs.declared.table.Column.TheVariants.{Name, Kind, Files, Items, Bytes, Bad, State}
 use Rattle.dl_tool.specs.declared.table.Entry.{Entry}
 use Rattle.dl_tool.specs.declared.table.Entry.TheVariants.{Head, Log, Total}
 use Rattle.dl_tool.specs.declared.table.Row.{Row}
 use Rattle.dl_tool.specs.declared.table.Widths.{Widths}
-use Rattle.dl_tool.specs.Line.{kind_word}
+use Rattle.dl_tool.specs.Line.{kind_word, whole_word}
 
 -- how much a log has, if that is known
 abbrev pub amount_in : Finding → Option Amount
@@ -41,8 +41,8 @@ total_of rows = record { files = sum_over (λ a. a.files) rows; items = sum_over
 
 -- ---- the cells
 abbrev pub state_word : Finding → List ℕ
-state_word Absent = codes "absent"
-state_word (Clean a) = codes "clean"
+state_word Absent = codes "no such log"
+state_word (Clean a) = whole_word a.bad
 state_word (Torn a file kept cut) = codes "needs repair"
 state_word (Refused refused) = codes "refused"
 state_word (Unread file) = codes "unread"
@@ -53,6 +53,7 @@ head_cell Kind = codes "kind"
 head_cell Files = codes "files"
 head_cell Items = codes "items"
 head_cell Bytes = codes "bytes"
+head_cell Bad = codes "bad"
 head_cell State = codes "state"
 
 -- the columns that are no number are empty
@@ -62,6 +63,7 @@ amount_cell Kind a = []
 amount_cell Files a = decimal a.files
 amount_cell Items a = decimal a.items
 amount_cell Bytes a = decimal a.bytes
+amount_cell Bad a = decimal a.bad
 amount_cell State a = []
 
 abbrev pub total_cell : Column → Amount → List ℕ
@@ -70,6 +72,7 @@ total_cell Kind a = []
 total_cell Files a = decimal a.files
 total_cell Items a = decimal a.items
 total_cell Bytes a = decimal a.bytes
+total_cell Bad a = decimal a.bad
 total_cell State a = []
 
 abbrev pub known_cell : Column → Option Amount → List ℕ
@@ -82,6 +85,7 @@ log_cell Kind row = kind_word row.log.kind
 log_cell Files row = known_cell Files (amount_in row.found)
 log_cell Items row = known_cell Items (amount_in row.found)
 log_cell Bytes row = known_cell Bytes (amount_in row.found)
+log_cell Bad row = known_cell Bad (amount_in row.found)
 log_cell State row = state_word row.found
 
 abbrev pub cell : Column → Entry → List ℕ
@@ -95,7 +99,7 @@ abbrev pub width_of : Column → List Entry → ℕ
 width_of column entries = fold (λ w e. max w (length (cell column e))) 0 entries
 
 abbrev pub widths_of : List Entry → Widths
-widths_of entries = record { name = width_of Name entries; kind = width_of Kind entries; files = width_of Files entries; items = width_of Items entries; bytes = width_of Bytes entries }
+widths_of entries = record { name = width_of Name entries; kind = width_of Kind entries; files = width_of Files entries; items = width_of Items entries; bytes = width_of Bytes entries; bad = width_of Bad entries }
 
 -- a text with blanks before it, or after it, up to a width
 abbrev pub padded_left : ℕ → List ℕ → List ℕ
@@ -124,7 +128,7 @@ abbrev pub names_text : Widths → Entry → List ℕ
 names_text w e = left_cell Name w.name e ++ gap ++ left_cell Kind w.kind e
 
 abbrev pub counts_text : Widths → Entry → List ℕ
-counts_text w e = right_cell Files w.files e ++ right_cell Items w.items e ++ right_cell Bytes w.bytes e
+counts_text w e = right_cell Files w.files e ++ right_cell Items w.items e ++ right_cell Bytes w.bytes e ++ right_cell Bad w.bad e
 
 abbrev pub entry_line : Widths → Entry → List ℕ
 entry_line w e = names_text w e ++ counts_text w e ++ last_text (cell State e) ++ 10 ∷ []

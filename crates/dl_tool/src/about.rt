@@ -10,7 +10,7 @@ ghost use Rattle.dl_tool.specs.Report.{FindsLog};
 
 use crate::check::check_log;
 use crate::finding::{Amount, Finding};
-use crate::line::{LogFiles, kind_word, push_bytes, push_cut};
+use crate::line::{LogFiles, kind_word, push_bytes, push_cut, whole_word};
 use crate::report::{ReportFault, write_text};
 use dl_disk::Disk;
 use dl_types::{Base, FileName, Kind, Refusal, Size};
@@ -79,7 +79,7 @@ fn push_found<A: Allocator + Copy>(text: &mut Vec<u8, A>, found: Finding) -> Res
         Finding::Absent => push_state(text, "no such log"),
         Finding::Clean(amount) => {
             push_amount(text, amount)?;
-            push_state(text, "clean")
+            push_state(text, whole_word(amount.bad))
         }
         Finding::Torn {
             amount,
@@ -110,12 +110,12 @@ fn push_amount<A: Allocator>(text: &mut Vec<u8, A>, amount: Amount) -> Result<()
     push_counts(text, amount)
 }
 
-// Adds the line of the size that is stored.
+// Adds the line of the size that is stored: a halt log stores none.
 fn push_size<A: Allocator>(text: &mut Vec<u8, A>, stored: Option<Size>) -> Result<(), AllocError>
     ensures { OnOk result (text.new.items ≡ text.old.items ++ size_field stored) }
 {
     match stored {
-        None => Ok(()),
+        None => push_bytes(text, b"size: not stored\n"),
         Some(size) => write!(text, "size: {size}\n").map_err(|_| AllocError),
     }
 }

@@ -39,6 +39,7 @@ fn widths_of<A: Allocator + Copy>(alloc: A, entries: &[Entry]) -> Result<Widths,
         files: width_of(alloc, Column::Files, entries)?,
         items: width_of(alloc, Column::Items, entries)?,
         bytes: width_of(alloc, Column::Bytes, entries)?,
+        bad: width_of(alloc, Column::Bad, entries)?,
     })
 }
 
@@ -108,7 +109,8 @@ fn push_counts<A: Allocator + Copy>(
 {
     push_right(text, Column::Files, widths.files, entry)?;
     push_right(text, Column::Items, widths.items, entry)?;
-    push_right(text, Column::Bytes, widths.bytes, entry)
+    push_right(text, Column::Bytes, widths.bytes, entry)?;
+    push_right(text, Column::Bad, widths.bad, entry)
 }
 
 // Adds a cell at the left of its column.

@@ -4,7 +4,7 @@ ghost use Rattle.dl_types.specs.Printed.{printed_file};
 ghost use Rattle.dl_tool.specs.Json.{json_log, json_size, json_state, json_counts, json_amount, json_repair, json_field, json_end, IsJsonText, IsJson};
 
 use crate::finding::{Amount, Finding};
-use crate::line::{LogFiles, kind_word, push_bytes};
+use crate::line::{LogFiles, kind_word, push_bytes, whole_word};
 use dl_types::{FileName, Refusal, Size};
 use std::alloc::{AllocError, Allocator};
 use std::io::Write;
@@ -44,8 +44,8 @@ fn push_found<A: Allocator + Copy>(text: &mut Vec<u8, A>, found: Finding) -> Res
     ensures { OnOk result ((said : List ℕ) × IsJsonText found said × (text.new.items ≡ text.old.items ++ said)) }
 {
     match found {
-        Finding::Absent => push_state(text, "absent"),
-        Finding::Clean(amount) => push_amount(text, "clean", amount),
+        Finding::Absent => push_state(text, "no such log"),
+        Finding::Clean(amount) => push_amount(text, whole_word(amount.bad), amount),
         Finding::Torn {
             amount,
             kept,

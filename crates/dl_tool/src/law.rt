@@ -14,13 +14,13 @@ ghost use Rattle.dl_types.specs.State.{LogState};
 ghost use Rattle.dl_types.specs.State as files;
 ghost use Rattle.dl_tool.specs.declared.finding.Finding.{Finding};
 ghost use Rattle.dl_tool.specs.Finding.{IsFinding};
-ghost use Rattle.dl_tool.specs.Report.{is_clean, is_unread};
+ghost use Rattle.dl_tool.specs.Report.{is_opened, is_unread};
 
 use std::alloc::Allocator;
 
-/// The law of a check, over the definitions alone: a log that could be read is found clean if and only if it is there and
+/// The law of a check, over the definitions alone: a log that could be read is found to be opened as it is if and only if it is there and
 /// an open of it, which asks for nothing but a log of its kind, answers that it was opened.
 pub fn clean_is_opened<A: Allocator>()
     ensures { (client : ClientId) (name : Name) (kind : Kind) (s : LogState) (content : Content) (found : Finding) → s.open_as ≡ None → IsFinding A content (base_of name) kind (s.files (base_of name) kind) found
-        → is_unread found ≡ false → (is_clean found ≡ true) ↔ ((s.files (base_of name) kind ≢ files.Absent) × ((alone {Z = A} name s (event.Call client name (call.Open (plain_args kind)))).reply ≡ reply.Opened)) }
+        → is_unread found ≡ false → (is_opened found ≡ true) ↔ ((s.files (base_of name) kind ≢ files.Absent) × ((alone {Z = A} name s (event.Call client name (call.Open (plain_args kind)))).reply ≡ reply.Opened)) }
 {}

@@ -2,6 +2,7 @@
 #![tactic(auto)]
 
 mod about;
+mod begin;
 mod check;
 mod columns;
 mod copy;
@@ -23,6 +24,7 @@ mod wrap;
 mod zeros;
 
 pub use about::describe_log;
+pub use begin::files_in_way;
 pub use check::check_log;
 pub use copy::{CopyFault, copy_bad};
 pub use finding::{Amount, Finding};

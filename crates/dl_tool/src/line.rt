@@ -1,7 +1,7 @@
 // What is found of a log, as a line.
 ghost use Rattle.std.specs.Prelude.{◌≡◌, ◌++◌, List, ℕ, OnOk, codes};
 ghost use Rattle.dl_types.specs.Printed.{printed_file, refusal_text};
-ghost use Rattle.dl_tool.specs.Line.{kind_word, log_text, amount_text, kept_text, cut_text, IsFindingText, IsLine};
+ghost use Rattle.dl_tool.specs.Line.{kind_word, whole_word, log_text, amount_text, kept_text, cut_text, IsFindingText, IsLine};
 
 use crate::finding::{Amount, Finding};
 use dl_types::{Base, FileName, Kind, Refusal};
@@ -37,6 +37,13 @@ pub fn kind_word(kind: Kind) -> &'static str
         Kind::Halt => "halt",
         Kind::Wrap => "wrap",
     }
+}
+
+/// The word of a log that is opened as it is, by its bad bytes, which are those of older files.
+pub fn whole_word(bad: u64) -> &'static str
+    ensures { result.now ≡ whole_word bad }
+{
+    if bad == 0 { "clean" } else { "damaged" }
 }
 
 // Adds a log, and a space.
@@ -83,12 +90,13 @@ fn push_amount<A: Allocator>(text: &mut Vec<u8, A>, amount: Amount) -> Result<()
     write!(text, "files={files} items={items} bytes={bytes} bad={bad}").map_err(|_| AllocError)
 }
 
-// Adds how much a log has that is clean.
+// Adds how much a log has that is opened as it is, and whether some of its bytes are bad.
 fn push_clean<A: Allocator>(text: &mut Vec<u8, A>, amount: Amount) -> Result<(), AllocError>
-    ensures { OnOk result (text.new.items ≡ text.old.items ++ (amount_text amount ++ codes " clean")) }
+    ensures { OnOk result (text.new.items ≡ text.old.items ++ (amount_text amount ++ codes " " ++ whole_word amount.bad)) }
 {
     push_amount(text, amount)?;
-    push_bytes(text, b" clean")
+    push_bytes(text, b" ")?;
+    push_bytes(text, whole_word(amount.bad).as_bytes())
 }
 
 // Adds how much a log has, and what a repair would do.

@@ -3,7 +3,7 @@ ghost use Rattle.std.specs.Prelude.{◌≡◌, ◌++◌, OnOk};
 ghost use Rattle.dl_tool.specs.Table.{amount_in, share_of, total_with, total_of, state_word, head_cell, amount_cell, total_cell, known_cell, log_cell, cell};
 
 use crate::finding::{Amount, Finding};
-use crate::line::{LogFiles, kind_word, push_bytes};
+use crate::line::{LogFiles, kind_word, push_bytes, whole_word};
 use std::alloc::{AllocError, Allocator};
 use std::io::Write;
 
@@ -32,6 +32,7 @@ pub enum Column {
     Files,
     Items,
     Bytes,
+    Bad,
     State,
 }
 
@@ -43,6 +44,7 @@ pub struct Widths {
     pub files: usize,
     pub items: usize,
     pub bytes: usize,
+    pub bad: usize,
 }
 
 /// How much these logs have together.
@@ -121,6 +123,7 @@ fn head_cell(column: Column) -> &'static str
         Column::Files => "files",
         Column::Items => "items",
         Column::Bytes => "bytes",
+        Column::Bad => "bad",
         Column::State => "state",
     }
 }
@@ -139,7 +142,7 @@ fn push_log_cell<A: Allocator>(
             push_bytes(text, base.as_bytes())
         }
         Column::Kind => push_bytes(text, kind_word(row.log.kind).as_bytes()),
-        Column::Files | Column::Items | Column::Bytes => {
+        Column::Files | Column::Items | Column::Bytes | Column::Bad => {
             push_known_cell(text, column, amount_in(row.found))
         }
         Column::State => push_bytes(text, state_word(row.found).as_bytes()),
@@ -172,6 +175,7 @@ fn push_amount_cell<A: Allocator>(
         Column::Files => amount.files,
         Column::Items => amount.items,
         Column::Bytes => amount.bytes,
+        Column::Bad => amount.bad,
         Column::Name | Column::Kind | Column::State => return Ok(()),
     };
     write!(text, "{number}").map_err(|_| AllocError)
@@ -196,8 +200,8 @@ fn state_word(found: Finding) -> &'static str
     ensures { result.now ≡ state_word found }
 {
     match found {
-        Finding::Absent => "absent",
-        Finding::Clean(_) => "clean",
+        Finding::Absent => "no such log",
+        Finding::Clean(amount) => whole_word(amount.bad),
         Finding::Torn { .. } => "needs repair",
         Finding::Refused(_) => "refused",
         Finding::Unread(_) => "unread",

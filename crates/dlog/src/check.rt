@@ -3,15 +3,13 @@ ghost use Rattle.std.specs.Prelude.{◌≡◌};
 ghost use Rattle.std.specs.Process.{exit_status};
 ghost use Rattle.dlog.specs.Status.{health_status};
 
-use crate::folder::{FolderOfLogs, folder_word, logs_in, no_name, opened};
+use crate::files::{tell_odd, tell_strays, tell_zeros};
+use crate::folder::{FolderOfLogs, folder_in, folder_word, logs_in, no_name, opened};
 use crate::kept::{compare_logs, lines_in, with_missing};
 use crate::{BUFFER_BYTES, MISUSED, UNCLEAN, UNREAD, tell};
 use clap::{Arg, ArgAction, ArgMatches, Command};
 use dl_digest::DigestLine;
-use dl_tool::{
-    Health, LogFiles, ReportFault, Style, check_logs, ends_in_zeros, find_strays, list_logs,
-    logs_named,
-};
+use dl_tool::{Health, LogFiles, ReportFault, Style, check_logs, list_logs, logs_named};
 use dl_types::{Base, FileName};
 use std::alloc::{AllocError, Global};
 use std::io;
@@ -27,7 +25,7 @@ pub fn check_command<'a>(alloc: Global) -> Result<Command<'a>, AllocError> {
     Command::new(alloc, "check")
         .about("Check the logs of a folder, and change nothing")
         .after_help(
-            "A line is told for each log: how much it has, and `clean`, or what an open would do.\nWith --digests a line is told for each digest that does not hold: `changed` if the items have another one, `shorter` if there are fewer, and `gone` if their file is not there, since it gave way to another or was emptied. Items that came since are no change.\nThe status is 0 if all are clean, and no digest says changed or shorter, 1 if not, 2 if FILE has a line that is no digest, and 3 if a log or FILE could not be read.\n\nExamples: dlog check logs audit\n          dlog check logs --digests audit.digests",
+            "A line is told for each log: how much it has, and `clean`, `damaged` if older files of a wrap log have bad bytes, or what an open would do. A numbered file that no index names is told as `stray`.\nWith --digests a line is told for each digest that does not hold: `changed` if the items have another one, `shorter` if there are fewer, and `gone` if their file is not there, since it gave way to another or was emptied. Items that came since are no change.\nThe status is 0 if all are clean, nothing is stray, and no digest says changed or shorter, 1 if not, 2 if FILE has a line that is no digest, and 3 if a log or FILE could not be read.\n\nExamples: dlog check logs audit\n          dlog check logs --digests audit.digests",
         )
         .arg(folder_word(alloc))?
         .arg(names_word(alloc))?
@@ -40,7 +38,7 @@ pub fn list_command<'a>(alloc: Global) -> Result<Command<'a>, AllocError> {
     Command::new(alloc, "list")
         .about("List the logs of a folder, and change nothing")
         .after_help(
-            "A row is told for each log, under a head, and a last one for all.\nThe status is that of check.\n\nExample: dlog list logs",
+            "A row is told for each log, under a head, and a last one for all.\nThe status is that of check, but that nothing is said of stray files.\n\nExample: dlog list logs",
         )
         .arg(folder_word(alloc))?
         .arg(names_word(alloc))?
@@ -118,7 +116,7 @@ fn try_compare(
     let mut disk = opened(rt, options)?;
     let logs = logs_to_compare(rt, options, &mut disk, &lines)?;
     let checked = check_folder(rt, options, &mut disk, &logs, style)?;
-    let compared = compare_logs(rt, disk, &logs, &lines, style);
+    let compared = compare_logs(rt, folder_in(options), disk, &logs, &lines, style);
     Ok(worse(checked, compared))
 }
 
@@ -145,8 +143,8 @@ fn worse(checked: ExitCode, compared: u8) -> ExitCode {
     }
 }
 
-// Checks these logs of a folder and what the last items of torn ones have, and finds the files that no index names if the words name no
-// log.
+// Checks these logs of a folder and what the last items of torn ones have, and finds files that no index names: those of the logs
+// that the words name, or all of the folder.
 fn check_folder(
     rt: &HostRuntime,
     options: &ArgMatches<'_>,
@@ -156,64 +154,18 @@ fn check_folder(
 ) -> Result<ExitCode, ExitCode> {
     let mut torn = Vec::new(rt.alloc());
     let status = check_these(rt, disk, logs, style, &mut torn)?;
+    if status == ExitCode::from(UNREAD) {
+        tell_odd(rt, folder_in(options), disk, logs)?;
+    }
     tell_zeros(rt, disk, torn.as_slice(), style)?;
-    if options.get_strs("names").is_none() {
-        tell_strays(rt, disk, style)?;
+    let asked = match options.get_strs("names") {
+        None => None,
+        Some(_) => Some(logs),
+    };
+    if tell_strays(rt, disk, asked, style)? {
+        return Ok(worse(status, UNCLEAN));
     }
     Ok(status)
-}
-
-// Reports the numbered files of a folder that no index names.
-fn tell_strays(rt: &HostRuntime, disk: &mut FolderOfLogs, style: Style) -> Result<(), ExitCode> {
-    let strays = match find_strays(rt.alloc(), disk) {
-        Ok(strays) => strays,
-        Err(fault) => return Err(tell(rt, fault, UNREAD)),
-    };
-    for file in &strays {
-        tell_file(rt, *file, style, "stray", "no index names it")?;
-    }
-    Ok(())
-}
-
-// Reports those of these files whose last item has bytes, none of them other than zero.
-fn tell_zeros(
-    rt: &HostRuntime,
-    disk: &mut FolderOfLogs,
-    files: &[FileName],
-    style: Style,
-) -> Result<(), ExitCode> {
-    for file in files {
-        match ends_in_zeros(rt.alloc(), disk, *file) {
-            Ok(true) => tell_file(
-                rt,
-                *file,
-                style,
-                "zeros",
-                "its last item has no byte but zeros",
-            )?,
-            Ok(false) => {}
-            Err(fault) => return Err(tell(rt, fault, UNREAD)),
-        }
-    }
-    Ok(())
-}
-
-// Reports a file by a word for what was found, which these words explain.
-fn tell_file(
-    rt: &HostRuntime,
-    file: FileName,
-    style: Style,
-    word: &str,
-    why: &str,
-) -> Result<(), ExitCode> {
-    let told = match style {
-        Style::Line => println!(rt; "{file} {word}: {why}"),
-        Style::Json => println!(rt; "{{\"file\":\"{file}\",\"state\":\"{word}\"}}"),
-    };
-    if told.is_err() {
-        return Err(tell(rt, ReportFault::Write, UNREAD));
-    }
-    Ok(())
 }
 
 /// Checks these logs. The last files of those that need a repair are added to `torn`.
@@ -228,8 +180,8 @@ pub fn check_these(
         return Err(tell(rt, ReportFault::OutOfMemory, UNREAD));
     };
     let checked = check_logs(rt.alloc(), disk, logs, style, torn, &mut output);
-    let is_written = output.flush().is_ok();
-    Ok(end(rt, checked, is_written))
+    let written = output.flush();
+    Ok(end(rt, checked, written))
 }
 
 // Lists the logs, or says why the words do not name any.
@@ -249,8 +201,8 @@ fn list_folder(
         return Err(tell(rt, ReportFault::OutOfMemory, UNREAD));
     };
     let listed = list_logs(rt.alloc(), disk, &logs, &mut output);
-    let is_written = output.flush().is_ok();
-    Ok(end(rt, listed, is_written))
+    let written = output.flush();
+    Ok(end(rt, listed, written))
 }
 
 /// The logs that the words name, of which no two have the same name: a digest tells no kind.
@@ -284,7 +236,7 @@ fn logs_asked(
     options: &ArgMatches<'_>,
     disk: &mut FolderOfLogs,
 ) -> Result<Vec<LogFiles>, ExitCode> {
-    let found = logs_in(rt, disk)?;
+    let found = logs_in(rt, folder_in(options), disk)?;
     match options.get_strs("names") {
         None => Ok(found),
         Some(names) => logs_of(rt, &found, names),
@@ -314,9 +266,9 @@ fn logs_of(
 }
 
 // Returns the status of a report, or says why it was not written to its end.
-fn end(rt: &HostRuntime, told: Result<Health, ReportFault>, is_written: bool) -> ExitCode {
-    if !is_written {
-        return tell(rt, ReportFault::Write, UNREAD);
+fn end(rt: &HostRuntime, told: Result<Health, ReportFault>, written: io::Result<()>) -> ExitCode {
+    if let Err(error) = written {
+        return tell(rt, format_args!("standard output: {error}"), UNREAD);
     }
     match told {
         Ok(health) => status_of(health),

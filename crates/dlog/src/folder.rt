@@ -1,6 +1,8 @@
 // The folder of a command, and the logs in it.
+use crate::disk::{open_folder, tell_unopened};
+use crate::faults::Place;
 use crate::watched::WatchedDisk;
-use crate::{MISUSED, UNREAD, open_folder, tell};
+use crate::{MISUSED, UNREAD, tell};
 use clap::{Arg, ArgAction, ArgMatches, Command};
 use dl_disk::{FolderDisk, ListFault, OpenFault};
 use dl_tool::{LogFiles, find_logs, logs_named};
@@ -69,13 +71,21 @@ pub fn opened(rt: &HostRuntime, options: &ArgMatches<'_>) -> Result<FolderOfLogs
             Ok(own) => Ok(WatchedDisk::new(own, disk)),
             Err(error) => Err(tell(rt, error, UNREAD)),
         },
-        Err(OpenFault::InUse) => Err(tell(
-            rt,
-            "another program uses the folder: stop it first, or take a copy",
-            UNREAD,
-        )),
-        Err(OpenFault::Device) => Err(tell(rt, "the folder cannot be read", UNREAD)),
-        Err(OpenFault::OutOfMemory) => Err(tell(rt, "out of memory", UNREAD)),
+        Err(fault) => Err(tell_unopened(rt, path, fault, UNREAD)),
+    }
+}
+
+/// The path of the folder that the words name.
+pub fn folder_in<'a>(options: &ArgMatches<'a>) -> &'a str {
+    options.get_str("folder").unwrap_or("")
+}
+
+/// The log of this name in the folder that the words name.
+pub fn place_of<'a>(options: &ArgMatches<'a>, log: Name, writes: bool) -> Place<'a> {
+    Place {
+        folder: folder_in(options),
+        log,
+        writes,
     }
 }
 
@@ -101,19 +111,31 @@ pub fn no_name(rt: &HostRuntime, name: &str) -> ExitCode {
     )
 }
 
-/// The logs of a folder.
-pub fn logs_in(rt: &HostRuntime, disk: &mut FolderOfLogs) -> Result<Vec<LogFiles>, ExitCode> {
+/// The logs of the folder at this path.
+pub fn logs_in(
+    rt: &HostRuntime,
+    path: &str,
+    disk: &mut FolderOfLogs,
+) -> Result<Vec<LogFiles>, ExitCode> {
     match find_logs(rt.alloc(), disk) {
         Ok(found) => Ok(found),
-        Err(ListFault::Device) => Err(tell(rt, "the folder cannot be listed", UNREAD)),
-        Err(ListFault::OutOfMemory) => Err(tell(rt, "out of memory", UNREAD)),
+        Err(fault) => Err(tell_unlisted(rt, path, fault)),
     }
 }
 
+/// Says why the files of the folder at this path were not listed.
+pub fn tell_unlisted(rt: &HostRuntime, path: &str, fault: ListFault) -> ExitCode {
+    tell_unopened(rt, path, OpenFault::from(fault), UNREAD)
+}
+
 // The kinds of the logs of this name that the folder has; that of a halt log if it has none.
-fn kinds_of(rt: &HostRuntime, disk: &mut FolderOfLogs, log: Name) -> Result<Vec<Kind>, ExitCode> {
-    let found = logs_in(rt, disk)?;
-    let own = match logs_named(rt.alloc(), &found, Base::of(log)) {
+fn kinds_of(
+    rt: &HostRuntime,
+    disk: &mut FolderOfLogs,
+    place: Place<'_>,
+) -> Result<Vec<Kind>, ExitCode> {
+    let found = logs_in(rt, place.folder, disk)?;
+    let own = match logs_named(rt.alloc(), &found, Base::of(place.log)) {
         Ok(own) => own,
         Err(error) => return Err(tell(rt, error, UNREAD)),
     };
@@ -128,10 +150,11 @@ fn kinds_of(rt: &HostRuntime, disk: &mut FolderOfLogs, log: Name) -> Result<Vec<
 pub fn kind_there(
     rt: &HostRuntime,
     disk: &mut FolderOfLogs,
-    log: Name,
+    place: Place<'_>,
     what: &str,
 ) -> Result<Kind, ExitCode> {
-    match kinds_of(rt, disk, log)?.as_slice() {
+    let log = place.log;
+    match kinds_of(rt, disk, place)?.as_slice() {
         [kind] => Ok(*kind),
         _ => Err(tell(
             rt,
@@ -152,6 +175,9 @@ fn kind_in(
         Some("halt") => Ok(Kind::Halt),
         Some("wrap") => Ok(Kind::Wrap),
         Some(_) => Err(tell(rt, "--kind is halt or wrap", MISUSED)),
-        None => kind_there(rt, disk, log, "--kind halt or --kind wrap"),
+        None => {
+            let place = place_of(options, log, false);
+            kind_there(rt, disk, place, "--kind halt or --kind wrap")
+        }
     }
 }

@@ -2,8 +2,9 @@
 ghost use Rattle.std.specs.Prelude.{◌≡◌};
 ghost use Rattle.dlog.specs.Status.{verdict_status};
 
-use crate::advice::advice_on;
+use crate::faults::{Failure, Place, tell_failure};
 use crate::folder::FolderOfLogs;
+use crate::noted::{Noted, Why};
 use crate::{BLOCKS, BUFFER_BYTES, MISUSED, UNCLEAN, UNREAD, tell};
 use dl_digest::{Compared, DigestLine, Extent, ListFault, Verdict, compare_log, read_lines};
 use dl_hub::Hub;
@@ -24,18 +25,22 @@ pub fn lines_in(rt: &HostRuntime, path: &str) -> Result<Vec<DigestLine>, ExitCod
         Ok(file) => file,
         Err(error) => return Err(tell(rt, format_args!("{path}: {error}"), UNREAD)),
     };
-    let Ok(mut input) = BufReader::with_capacity(rt.alloc(), BUFFER_BYTES, file) else {
+    let input = BufReader::with_capacity(rt.alloc(), BUFFER_BYTES, Noted::new(file));
+    let Ok(mut input) = input else {
         return Err(tell(rt, ListFault::OutOfMemory, UNREAD));
     };
     match read_lines(rt.alloc(), &mut input) {
         Ok(lines) => Ok(lines),
-        Err(fault) => {
-            let status = match fault {
-                ListFault::BadLine(_) => MISUSED,
-                ListFault::Read | ListFault::OutOfMemory => UNREAD,
-            };
-            Err(tell(rt, format_args!("{path}: {fault}"), status))
-        }
+        Err(fault) => Err(tell_unlisted(rt, path, input.get_ref().why(), fault)),
+    }
+}
+
+// Says why the digests in the file at this path were not read.
+fn tell_unlisted(rt: &HostRuntime, path: &str, why: Why, fault: ListFault) -> ExitCode {
+    match fault {
+        ListFault::BadLine(_) => tell(rt, format_args!("{path}: {fault}"), MISUSED),
+        ListFault::Read => tell(rt, format_args!("{path}: {why}"), UNREAD),
+        ListFault::OutOfMemory => tell(rt, format_args!("{path}: {fault}"), UNREAD),
     }
 }
 
@@ -61,13 +66,14 @@ pub fn with_missing(
 /// Holds logs of a folder against these digests. What does not hold is told, and the status says so.
 pub fn compare_logs(
     rt: &HostRuntime,
+    folder: &str,
     disk: FolderOfLogs,
     logs: &[LogFiles],
     lines: &[DigestLine],
     style: Style,
 ) -> u8 {
     match Hub::new(rt.alloc(), disk, BLOCKS) {
-        Ok(mut hub) => compare_in(rt, &mut hub, logs, lines, style),
+        Ok(mut hub) => compare_in(rt, folder, &mut hub, logs, lines, style),
         Err(fail) => {
             let _ = tell(rt, fail, UNREAD);
             UNREAD
@@ -78,6 +84,7 @@ pub fn compare_logs(
 // Compares each log of a hub, whatever became of those before it.
 fn compare_in(
     rt: &HostRuntime,
+    folder: &str,
     hub: &mut Hub<FolderOfLogs>,
     logs: &[LogFiles],
     lines: &[DigestLine],
@@ -87,22 +94,31 @@ fn compare_in(
     for files in logs {
         if let Some(log) = Name::parse(files.base.as_bytes()) {
             let done = compare_log(rt.alloc(), hub, log, files.kind, lines);
-            status = status.max(end(rt, log, done, style));
+            let place = Place {
+                folder,
+                log,
+                writes: false,
+            };
+            status = status.max(end(rt, place, done, style));
         }
     }
     status
 }
 
 // Tells what became of the lines of a log, or why it was not read.
-fn end(rt: &HostRuntime, log: Name, done: Result<Vec<Compared>, PipeFault>, style: Style) -> u8 {
+fn end(
+    rt: &HostRuntime,
+    place: Place<'_>,
+    done: Result<Vec<Compared>, PipeFault>,
+    style: Style,
+) -> u8 {
     match done {
         Ok(compared) => tell_each(rt, &compared, style),
         // The check has told that the log is absent.
         Err(PipeFault::Refused(Refusal::NoFile)) => UNCLEAN,
         Err(fault) => {
-            let advice = advice_on(fault);
             let status = fault_status(fault);
-            let _ = tell(rt, format_args!("{log}: {fault}{advice}"), status);
+            let _ = tell_failure(rt, place, Failure::of(fault), status);
             status
         }
     }
@@ -120,8 +136,8 @@ fn fault_status(fault: PipeFault) -> u8 {
 fn tell_each(rt: &HostRuntime, compared: &[Compared], style: Style) -> u8 {
     let mut status = CLEAN;
     for one in compared {
-        if tell_one(rt, *one, style).is_err() {
-            let _ = tell(rt, ReportFault::Write, UNREAD);
+        if let Err(error) = tell_one(rt, *one, style) {
+            let _ = tell(rt, format_args!("standard output: {error}"), UNREAD);
             return UNREAD;
         }
         status = status.max(verdict_status(one.verdict));

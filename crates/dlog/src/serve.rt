@@ -1,9 +1,11 @@
 // The command that serves the logs of a folder to the program that started it.
-use crate::{FAILED, MISUSED, on_disk, open_folder, tell, tell_folder};
+use crate::disk::{Chosen, ChosenDisk, choose, on_disk};
+use crate::noted::{Noted, tell_unread, tell_unwritten};
+use crate::{FAILED, tell};
 use clap::{ArgMatches, Command};
-use dl_disk::{Disk, MemoryDisk};
+use dl_disk::Disk;
 use dl_hub::Hub;
-use dl_serve::{Ended, serve};
+use dl_serve::{Ended, ServeFault, serve};
 use std::alloc::{AllocError, Global};
 use std::io;
 use std::process::ExitCode;
@@ -20,15 +22,12 @@ pub fn command<'a>(alloc: Global) -> Result<Command<'a>, AllocError> {
 
 /// Serves the program on standard input and output over the disk that the words name.
 pub fn run(rt: &HostRuntime, options: &ArgMatches<'_>) -> ExitCode {
-    let Some(blocks) = options.get_one("blocks") else {
-        return ExitCode::from(MISUSED);
-    };
-    let Some(path) = options.get_str("folder") else {
-        return run_over(rt, MemoryDisk::new(rt.alloc()), blocks);
-    };
-    match open_folder(rt, options, path) {
-        Ok(disk) => run_over(rt, disk, blocks),
-        Err(fault) => tell_folder(rt, fault),
+    match choose(rt, options) {
+        Err(status) => status,
+        Ok(Chosen { disk, blocks }) => match disk {
+            ChosenDisk::Memory(disk) => run_over(rt, disk, blocks),
+            ChosenDisk::Folder(disk) => run_over(rt, disk, blocks),
+        },
     }
 }
 
@@ -42,11 +41,13 @@ fn run_over<D: Disk + Drop>(rt: &HostRuntime, disk: D, blocks: u32) -> ExitCode 
 
 // Serves the program on a hub.
 fn run_on<D: Disk + Drop>(rt: &HostRuntime, hub: &mut Hub<D>) -> ExitCode {
-    let mut input = rt.reader();
-    let mut output = io::writer(rt);
+    let mut input = Noted::new(rt.reader());
+    let mut output = Noted::new(io::writer(rt));
     match serve(rt.alloc(), &mut input, &mut output, hub) {
         Ok(Ended::Input) => ExitCode::SUCCESS,
         Ok(Ended::LongFrame) => tell(rt, "a frame is too long", FAILED),
+        Err(ServeFault::Read) => tell_unread(rt, input.why(), FAILED),
+        Err(ServeFault::Write) => tell_unwritten(rt, output.why(), FAILED),
         Err(fault) => tell(rt, fault, FAILED),
     }
 }

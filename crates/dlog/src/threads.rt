@@ -3,10 +3,13 @@ ghost use Rattle.std.specs.Prelude.{◌≡◌};
 ghost use Rattle.std.specs.Process.{exit_status};
 ghost use Rattle.dlog.specs.Status.{settled_status};
 
-use crate::{BUFFER_BYTES, FAILED, MISUSED, on_disk, open_folder, status_of, tell, tell_folder};
+use crate::disk::{Chosen, ChosenDisk, choose, on_disk};
+use crate::noted::Noted;
+use crate::script::{Streams, tell_stopped};
+use crate::{BUFFER_BYTES, FAILED, tell};
 use clap::{ArgMatches, Command};
 use dl_app::ScriptFault;
-use dl_disk::{Disk, MemoryDisk};
+use dl_disk::Disk;
 use dl_threads::threads_script;
 use dl_trail::{Record, Recorded};
 use std::alloc::{AllocError, Global};
@@ -35,15 +38,12 @@ pub fn run<T: Threads + Wait + Clock + Sync>(
     handle: &T,
     options: &ArgMatches<'_>,
 ) -> ExitCode {
-    let Some(blocks) = options.get_one("blocks") else {
-        return ExitCode::from(MISUSED);
-    };
-    let Some(path) = options.get_str("folder") else {
-        return run_over(rt, handle, MemoryDisk::new(rt.alloc()), blocks);
-    };
-    match open_folder(rt, options, path) {
-        Ok(disk) => run_over(rt, handle, disk, blocks),
-        Err(fault) => tell_folder(rt, fault),
+    match choose(rt, options) {
+        Err(status) => status,
+        Ok(Chosen { disk, blocks }) => match disk {
+            ChosenDisk::Memory(disk) => run_over(rt, handle, disk, blocks),
+            ChosenDisk::Folder(disk) => run_over(rt, handle, disk, blocks),
+        },
     }
 }
 
@@ -55,7 +55,7 @@ fn run_over<D: Disk + Drop + Send, T: Threads + Wait + Clock + Sync>(
     blocks: u32,
 ) -> ExitCode {
     match Recorded::new(rt.alloc(), disk, blocks, Record::Kept) {
-        Ok(hub) => end(rt, run_on(rt, handle, hub)),
+        Ok(hub) => run_on(rt, handle, hub),
         Err(fail) => tell(rt, fail, FAILED),
     }
 }
@@ -65,21 +65,27 @@ fn run_on<D: Disk + Drop + Send, T: Threads + Wait + Clock + Sync>(
     rt: &HostRuntime,
     handle: &T,
     hub: Recorded<D>,
-) -> Result<bool, ScriptFault> {
-    let Ok(mut input) = BufReader::with_capacity(rt.alloc(), BUFFER_BYTES, rt.reader()) else {
-        return Err(ScriptFault::OutOfMemory);
+) -> ExitCode {
+    let input = BufReader::with_capacity(rt.alloc(), BUFFER_BYTES, Noted::new(rt.reader()));
+    let Ok(mut input) = input else {
+        return tell(rt, ScriptFault::OutOfMemory, FAILED);
     };
-    let mut output = io::writer(rt);
-    threads_script(handle, rt.alloc(), &mut input, &mut output, hub)
+    let mut output = Noted::new(io::writer(rt));
+    let done = threads_script(handle, rt.alloc(), &mut input, &mut output, hub);
+    let streams = Streams {
+        input: input.get_ref().why(),
+        output: output.why(),
+    };
+    end(rt, streams, done)
 }
 
 // The status of a script that was run, or says why it was not.
-fn end(rt: &HostRuntime, done: Result<bool, ScriptFault>) -> ExitCode
+fn end(rt: &HostRuntime, streams: Streams, done: Result<bool, ScriptFault>) -> ExitCode
     ensures { exit_status result ≡ settled_status done }
 {
     match done {
         Ok(true) => ExitCode::SUCCESS,
         Ok(false) => ExitCode::from(FAILED),
-        Err(fault) => tell(rt, fault, status_of(fault)),
+        Err(fault) => tell_stopped(rt, streams, fault),
     }
 }

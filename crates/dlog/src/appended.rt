@@ -1,0 +1,170 @@
+// What is told of an append.
+ghost use Rattle.std.specs.Prelude.{◌≡◌, IfOk, OnErr};
+ghost use Rattle.std.specs.Process.{exit_status};
+ghost use Rattle.dlog.specs.Status.{append_status};
+
+use crate::faults::{Failure, Place, advise, say, tell_failure};
+use crate::noted::Why;
+use crate::{FAILED, tell};
+use dl_pipe::{Appended, PipeFault, Source, Stage, Stop};
+use std::process::ExitCode;
+
+/// What the report on an append has to know of it.
+#[derive(Clone, Copy)]
+pub struct Report<'a> {
+    pub place: Place<'a>,
+    pub source: Source,
+}
+
+/// Says what an append came to, unless all items were logged and nothing was repaired.
+pub fn end(
+    rt: &HostRuntime,
+    report: Report<'_>,
+    why: Why,
+    done: Result<Appended, PipeFault>,
+) -> ExitCode
+    ensures appended { IfOk done (λ appended. exit_status result ≡ append_status appended.stopped) }
+    ensures refused { OnErr done (exit_status result ≡ 1) }
+{
+    match done {
+        Ok(appended) => tell_appended(rt, report, why, appended),
+        Err(fault) => tell_failure(rt, report.place, Failure { fault, why }, FAILED),
+    }
+}
+
+// Says what was repaired, and where the append stopped.
+fn tell_appended(rt: &HostRuntime, report: Report<'_>, why: Why, appended: Appended) -> ExitCode
+    ensures { exit_status result ≡ append_status appended.stopped }
+{
+    let log = report.place.log;
+    if let Some(cut) = appended.repair {
+        let kept = cut.kept;
+        let bytes = cut.bytes;
+        let _ = eprintln!(rt; "dlog: {log}: repaired: {kept} items kept, {bytes} bytes cut");
+    }
+    match appended.stopped {
+        Some(stop) => tell_stop(rt, report, why, stop, appended),
+        None => ExitCode::SUCCESS,
+    }
+}
+
+// Says where an append stopped, which of the items that it took are kept, and what to do.
+fn tell_stop(
+    rt: &HostRuntime,
+    report: Report<'_>,
+    why: Why,
+    stop: Stop,
+    appended: Appended,
+) -> ExitCode
+    ensures { exit_status result ≡ 1 }
+{
+    let fault = stop.fault;
+    let told = tell_stage(rt, report, Failure { fault, why }, stop.at, appended.items);
+    tell_kept(rt, report.place, appended);
+    advise(rt, report.place, fault);
+    told
+}
+
+// Says at which stage an append stopped, after it had taken `items` items.
+fn tell_stage(
+    rt: &HostRuntime,
+    report: Report<'_>,
+    failure: Failure,
+    at: Stage,
+    items: u64,
+) -> ExitCode
+    ensures { exit_status result ≡ 1 }
+{
+    let log = report.place.log;
+    let (one, many) = words_of(report.source);
+    match at {
+        Stage::Item => {
+            let next = items.saturating_add(1);
+            tell(
+                rt,
+                format_args!("{log}: {failure}: {items} {many} were taken, {one} {next} was not"),
+                FAILED,
+            )
+        }
+        Stage::Sync => tell(
+            rt,
+            format_args!(
+                "{log}: {failure}: all {items} {many} were taken, but the last were not put on the device"
+            ),
+            FAILED,
+        ),
+        Stage::Close => tell(
+            rt,
+            format_args!(
+                "{log}: {failure}: all {items} {many} were taken, but the log was not closed"
+            ),
+            FAILED,
+        ),
+    }
+}
+
+// What an item of the input is called, and several of them.
+fn words_of(source: Source) -> (&'static str, &'static str) {
+    match source {
+        Source::Raw => ("item", "items"),
+        Source::Lines | Source::Escaped => ("line", "lines"),
+    }
+}
+
+// Says which of the items that were taken are kept, as far as that is known.
+fn tell_kept(rt: &HostRuntime, place: Place<'_>, appended: Appended) {
+    let Place { folder, log, .. } = place;
+    let synced = appended.synced;
+    match kept_of(appended) {
+        Kept::Nothing => {}
+        Kept::OnDevice => say(rt, "all that were taken are on the device"),
+        Kept::InLog => say(
+            rt,
+            "all that were taken are in the log, which was closed, and may not be on the device yet",
+        ),
+        Kept::Synced if synced == 0 => say(
+            rt,
+            format_args!(
+                "none is known to be on the device, and some may be lost: dlog check {folder} {log} counts what is there"
+            ),
+        ),
+        Kept::Synced => say(
+            rt,
+            format_args!(
+                "the first {synced} are on the device, and others may be lost: dlog check {folder} {log} counts what is there"
+            ),
+        ),
+    }
+}
+
+// What is known of the items that an append took.
+#[derive(Clone, Copy)]
+enum Kept {
+    // There are none.
+    Nothing,
+    // All were put on the device.
+    OnDevice,
+    // All are in the files of the log.
+    InLog,
+    // Those that were synced are on the device, and others may be lost.
+    Synced,
+}
+
+// What is known of the items that an append took.
+fn kept_of(appended: Appended) -> Kept {
+    let Appended {
+        items,
+        synced,
+        closed,
+        ..
+    } = appended;
+    if items == 0 {
+        Kept::Nothing
+    } else if synced == items {
+        Kept::OnDevice
+    } else if closed {
+        Kept::InLog
+    } else {
+        Kept::Synced
+    }
+}

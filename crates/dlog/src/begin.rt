@@ -1,0 +1,84 @@
+// Whether a log may be begun.
+use crate::faults::Place;
+use crate::folder::{FolderOfLogs, tell_unlisted};
+use crate::{FAILED, tell};
+use dl_tool::{LogFiles, files_in_way};
+use dl_types::{Base, FileName, Kind, Part};
+use std::process::ExitCode;
+
+/// Whether a log may be opened to be written, which begins it if it is not there. It may not be begun where a log of the other
+/// kind has its name, or files that no index names: an `Err` is the status after a message on them.
+pub fn may_open(
+    rt: &HostRuntime,
+    disk: &mut FolderOfLogs,
+    place: Place<'_>,
+    kind: Kind,
+) -> Result<(), ExitCode> {
+    let log = LogFiles {
+        base: Base::of(place.log),
+        kind,
+    };
+    let files = match files_in_way(rt.alloc(), disk, log) {
+        Ok(files) => files,
+        Err(fault) => return Err(tell_unlisted(rt, place.folder, fault)),
+    };
+    match files.as_slice() {
+        [] => Ok(()),
+        [first, ..] => Err(tell_in_way(rt, place, *first, &files)),
+    }
+}
+
+// Says which files are in the way of a log, by the first of them.
+fn tell_in_way(
+    rt: &HostRuntime,
+    place: Place<'_>,
+    first: FileName,
+    files: &[FileName],
+) -> ExitCode {
+    let Place { folder, log, .. } = place;
+    match first.part {
+        Part::Halt => tell(
+            rt,
+            format_args!(
+                "{log}: there is a halt log of this name, {folder}/{first}, and no wrap log is begun beside it\nleave --wrap out to append to it, or take another name"
+            ),
+            FAILED,
+        ),
+        Part::Index => tell(
+            rt,
+            format_args!(
+                "{log}: there is a wrap log of this name, {folder}/{first}, and no halt log is begun beside it\nleave --size out to append to it, or take another name"
+            ),
+            FAILED,
+        ),
+        Part::Numbered(_) => tell_strays(rt, place, first, files),
+    }
+}
+
+// Says that files of a wrap log are there and its index is not.
+fn tell_strays(
+    rt: &HostRuntime,
+    place: Place<'_>,
+    first: FileName,
+    files: &[FileName],
+) -> ExitCode {
+    let Place { folder, log, .. } = place;
+    let count = files.len();
+    let last = files.last().copied().unwrap_or(first);
+    if count == 1 {
+        return tell(
+            rt,
+            format_args!(
+                "{log}: {folder}/{first} is there, and no index {log}.idx that names it: no log is begun over it\nput the index back, or move the file away: it can be read as a halt log under another name"
+            ),
+            FAILED,
+        );
+    }
+    tell(
+        rt,
+        format_args!(
+            "{log}: {folder} has {count} numbered files of this name, {first} to {last}, and no index {log}.idx that names them: no log is begun over them\nput the index back, or move the files away: each can be read as a halt log under another name"
+        ),
+        FAILED,
+    )
+}

@@ -1,0 +1,46 @@
+// What is told of a log that is followed.
+use crate::faults::{Place, advise_on_file};
+use crate::{UNREAD, tell};
+use dl_tail::{Position, TailFault};
+use dl_types::Name;
+use std::process::ExitCode;
+
+/// Tells of bytes that are no item's.
+pub fn tell_torn(rt: &HostRuntime, log: Name, end: Position) {
+    let Position {
+        generation,
+        passed,
+        ..
+    } = end;
+    let _ = eprintln!(rt;
+        "dlog: {log}: bad bytes after item {passed} of the file of generation {generation}"
+    );
+}
+
+/// Tells that files were passed over.
+pub fn tell_passed(rt: &HostRuntime, log: Name, next: Position, emptied: bool) {
+    let generation = next.generation;
+    let what = if emptied {
+        "it was emptied or moved"
+    } else {
+        "files gave way before they were read"
+    };
+    let _ = eprintln!(rt;
+        "dlog: {log}: {what}: it goes on with the file of generation {generation}, and items may be missing before it"
+    );
+}
+
+/// Tells that the log is not there any more.
+pub fn tell_gone(rt: &HostRuntime, log: Name) {
+    let _ = eprintln!(rt; "dlog: {log}: it is not there any more, and is waited for");
+}
+
+/// Says why the files of the log were not read, and what to look at.
+pub fn tell_tail(rt: &HostRuntime, place: Place<'_>, fault: TailFault) -> ExitCode {
+    let Place { folder, log, .. } = place;
+    let told = tell(rt, format_args!("{log}: {fault}"), UNREAD);
+    if let TailFault::Device(file) = fault {
+        advise_on_file(rt, folder, file, false);
+    }
+    told
+}
