@@ -55,6 +55,17 @@ fn named_base(step: Step<'_>) -> Option<NamedBase<'_>> {
     Some(NamedBase { log, base })
 }
 
+/// The base at which a step opens a log, if it does.
+pub fn opened_base(step: Step<'_>) -> Option<&str> {
+    let Step::Line(line) = step else {
+        return None;
+    };
+    if line.text.split(' ').skip(1).next() != Some("open") {
+        return None;
+    }
+    named_base(step).map(|named| named.base)
+}
+
 // The log that a step calls on, if it is a call.
 fn called_log(step: Step<'_>) -> Option<&str> {
     let Step::Line(line) = step else {
@@ -91,7 +102,9 @@ fn is_private(life: &[Step<'_>], log: &str) -> bool {
 // Whether a step names the base of another log, or lets the device fail there.
 fn disturbs(step: Step<'_>, own: NamedBase<'_>) -> bool {
     if let Step::Fail(failure) = step {
-        return failure.base.as_bytes() == own.base.as_bytes();
+        return failure
+            .base
+            .is_none_or(|base| base.as_bytes() == own.base.as_bytes());
     }
     named_base(step).is_some_and(|other| other.log != own.log && other.base == own.base)
 }

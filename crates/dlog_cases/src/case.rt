@@ -1,5 +1,6 @@
 // A case as its file writes it.
 use crate::fault::CaseFault;
+use crate::order::{is_late, order_of};
 use dl_disk::Fuse;
 use dl_types::{Base, FileName};
 use std::alloc::Global;
@@ -29,17 +30,37 @@ pub struct LaidFile<'a> {
     pub digits: &'a str,
 }
 
-/// A failure of the device: after `calls` calls on the files of a base one call fails, or each.
+/// A failure of the device: after `calls` calls on the files of a base, or on all files, one call fails, or each.
 #[derive(Clone, Copy)]
 pub struct Failure {
-    pub base: Base,
+    pub base: Option<Base>,
     pub calls: u64,
+    pub fuse: Fuse,
+}
+
+/// A failure of the device after the calls that the first lines of its hub make on the files of a base, or on all files: one call
+/// fails, or each.
+#[derive(Clone, Copy)]
+pub struct LateFailure {
+    /// The number of the line in the case's file, counted from 1.
+    pub number: u64,
+    pub base: Option<Base>,
+    /// How many lines of the hub that is.
+    pub lines: usize,
     pub fuse: Fuse,
 }
 
 /// A sweep: the case is also run with a device that fails at each of its calls on the files of a base in turn.
 #[derive(Clone, Copy)]
 pub struct Sweep {
+    /// The number of the line in the case's file, counted from 1.
+    pub number: u64,
+    pub base: Base,
+}
+
+/// A log that keeps its items: the case is also run with one call on the files of its base failing, each in turn.
+#[derive(Clone, Copy)]
+pub struct Keep {
     /// The number of the line in the case's file, counted from 1.
     pub number: u64,
     pub base: Base,
@@ -71,8 +92,13 @@ pub enum Step<'a> {
     /// The case is also stopped at each call of the device. The number is that of the line in the case's file.
     Stops(u64),
     Spoil(Spoil),
+    Keep(Keep),
+    /// The case is also run with each call refused memory until it has enough. The number is that of the line in the case's
+    /// file.
+    Refuse(u64),
     File(LaidFile<'a>),
     Fail(Failure),
+    FailAfter(LateFailure),
     Line(Line<'a>),
     /// The hub ends, and a command is used on its files.
     Tool(Tool<'a>),
@@ -192,86 +218,6 @@ fn form_of(line: &str) -> Form<'_> {
     }
 }
 
-// The order that these words are, if they are one.
-fn order_of(text: &str, number: u64) -> Option<Step<'_>> {
-    let (order, others) = text.split_once(' ').unwrap_or((text, ""));
-    match order {
-        "blocks" => Some(Step::Blocks(others)),
-        "sweep" => Some(Step::Sweep(Sweep {
-            number,
-            base: Base::parse(others.as_bytes())?,
-        })),
-        "stops" if others.is_empty() => Some(Step::Stops(number)),
-        "spoil" => Some(Step::Spoil(Spoil {
-            number,
-            file: FileName::parse(others.as_bytes())?,
-        })),
-        "file" => Some(Step::File(file_of(others)?)),
-        "fail" => Some(Step::Fail(failure_of(others)?)),
-        "mend" => Some(Step::Mend),
-        "again" => Some(Step::Again),
-        "append" | "check" | "dump" | "info" | "list" | "repair" => Some(Step::Tool(Tool {
-            number,
-            verb: order,
-            others,
-        })),
-        _ => None,
-    }
-}
-
-fn file_of(text: &str) -> Option<LaidFile<'_>> {
-    let (name, digits) = text.split_once(' ')?;
-    let name = FileName::parse(name.as_bytes())?;
-    Some(LaidFile { name, digits })
-}
-
-fn failure_of(text: &str) -> Option<Failure> {
-    let (base, others) = text.split_once(' ')?;
-    let (calls, fuse) = others.split_once(' ')?;
-    Some(Failure {
-        base: Base::parse(base.as_bytes())?,
-        calls: calls.parse::<u64>().ok()?,
-        fuse: fuse_of(fuse)?,
-    })
-}
-
-fn fuse_of(word: &str) -> Option<Fuse> {
-    if word == "one" {
-        Some(Fuse::One)
-    } else if word == "all" {
-        Some(Fuse::All)
-    } else {
-        None
-    }
-}
-
-// Whether a step comes after a line of its hub, although it has to come before all of them.
-fn is_late(steps: &[Step<'_>], step: Step<'_>) -> bool {
-    match step {
-        Step::Blocks(_) | Step::Sweep(_) | Step::Stops(_) | Step::Spoil(_) => {
-            steps.iter().any(|step| !is_setting(*step))
-        }
-        Step::File(_) | Step::Fail(_) => {
-            let begun = steps.iter().rev().find(|step| !is_setting(**step));
-            begun.is_some_and(|step| !matches!(step, Step::Again))
-        }
-        _ => false,
-    }
-}
-
-// Whether a step says how a hub begins.
-fn is_setting(step: Step<'_>) -> bool {
-    matches!(
-        step,
-        Step::Blocks(_)
-            | Step::Sweep(_)
-            | Step::Stops(_)
-            | Step::Spoil(_)
-            | Step::File(_)
-            | Step::Fail(_)
-    )
-}
-
 /// The numbers of blocks that a case is run with.
 pub fn blocks_of(alloc: Global, steps: &[Step<'_>]) -> Result<Vec<u32>, CaseFault> {
     let words = steps.iter().find_map(|step| match step {
@@ -296,5 +242,7 @@ pub fn count_answers(steps: &[Step<'_>]) -> u64 {
 
 /// Whether the device fails.
 pub fn has_failure(steps: &[Step<'_>]) -> bool {
-    steps.iter().any(|step| matches!(step, Step::Fail(_)))
+    steps
+        .iter()
+        .any(|step| matches!(step, Step::Fail(_) | Step::FailAfter(_)))
 }

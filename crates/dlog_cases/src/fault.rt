@@ -46,12 +46,20 @@ pub enum CaseFault {
     NoEnd(u64),
     #[error("line {0} has a fault that loses items")]
     Loses(u64),
-    #[error("line {0} has a fault after which a sync or a close is not done")]
+    #[error("line {0} has a fault after which turns never find that nothing waits")]
+    NotIdle(u64),
+    #[error("line {0} has a fault after which it, a sync or a close is not done")]
     NotDone(u64),
     #[error("line {0} has a fault after which a sync or a close does not keep the items")]
     NotKept(u64),
+    #[error("line {0} does not tell the error status as it changes")]
+    BadStatus(u64),
     #[error("line {0} is stopped and loses items")]
     StopLoses(u64),
+    #[error("line {0} is of a case none of whose calls is refused memory")]
+    NoRefusal(u64),
+    #[error("line {0} is refused memory, however much there is")]
+    Starves(u64),
     #[error("the files that a fault leaves are not opened")]
     NotOpened,
     #[error("a log has more files or items than a sweep reads")]
@@ -108,6 +116,10 @@ pub enum How {
     Stopped {
         calls: u64,
     },
+    /// In memory, with so many bytes left of the memory of the hub.
+    Starved {
+        bytes: usize,
+    },
     /// In memory, on a file of which no more than its first bytes are left.
     Cut {
         file: FileName,
@@ -142,6 +154,7 @@ impl fmt::Display for How {
                 write!(f, "{count} failing after {calls} calls at {base}")
             }
             How::Stopped { calls } => write!(f, "stopped after {calls} calls"),
+            How::Starved { bytes } => write!(f, "with {bytes} bytes of memory left"),
             How::Cut { file, length } => write!(f, "{file} cut to {length} bytes"),
             How::Changed { file, at, value } => write!(f, "byte {at} of {file} set to {value}"),
         }

@@ -3,6 +3,7 @@ use crate::alone::{alone, private_logs};
 use crate::answer::bytes_of;
 use crate::case::{Failure, Step, Tool};
 use crate::fault::{CaseFault, How};
+use crate::fuse::counted;
 use crate::job::Job;
 use crate::script::run_lines;
 use crate::trial::Trial;
@@ -37,8 +38,9 @@ fn run_lives_in_memory(
     trial.logs = 0;
     for life in steps.split(|step| matches!(step, Step::Again)) {
         trial.how = How::Memory;
-        live_in_memory(alloc, files, life, left, trial)?;
-        run_each_alone(alloc, files, life, trial)?;
+        let life = counted(alloc, files, life, trial)?;
+        live_in_memory(alloc, files, life.as_slice(), left, trial)?;
+        run_each_alone(alloc, files, life.as_slice(), trial)?;
         mem::swap(files, left);
     }
     Ok(())
@@ -210,8 +212,8 @@ fn work_on_hub(
     Ok(())
 }
 
-// A copy of these files, and with it those that the steps lay down.
-fn laid(alloc: Global, files: &MemoryDisk, life: &[Step<'_>]) -> Result<MemoryDisk, CaseFault> {
+/// A copy of these files, and with it those that the steps lay down.
+pub fn laid(alloc: Global, files: &MemoryDisk, life: &[Step<'_>]) -> Result<MemoryDisk, CaseFault> {
     let mut own = files.copy()?;
     lay_in_memory(alloc, &mut own, life)?;
     Ok(own)
@@ -248,7 +250,7 @@ fn failure_in(life: &[Step<'_>]) -> Option<Failure> {
 fn fused(alloc: Global, files: MemoryDisk, failure: Option<Failure>) -> FuseDisk<MemoryDisk> {
     let (base, calls, fuse) = match failure {
         None => (None, u64::MAX, Fuse::One),
-        Some(failure) => (Some(failure.base), failure.calls, failure.fuse),
+        Some(failure) => (failure.base, failure.calls, failure.fuse),
     };
     FuseDisk::new(alloc, files, base, calls, fuse)
 }

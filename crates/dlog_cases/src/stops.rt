@@ -53,7 +53,12 @@ pub fn run_stops(alloc: Global, steps: &[Step<'_>], trial: &mut Trial) -> Result
 // Whether a step may stand in a case that is stopped: it has one hub whose device does not fail, no command and no bad line.
 fn may_be_stopped(step: Step<'_>) -> bool {
     match step {
-        Step::Blocks(_) | Step::Stops(_) | Step::Sweep(_) | Step::File(_) => true,
+        Step::Blocks(_)
+        | Step::Stops(_)
+        | Step::Sweep(_)
+        | Step::Keep(_)
+        | Step::Refuse(_)
+        | Step::File(_) => true,
         Step::Line(line) => !matches!(deed_of(line), Deed::BadLine),
         _ => false,
     }

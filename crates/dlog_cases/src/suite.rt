@@ -2,7 +2,9 @@
 use crate::case::{Step, blocks_of, count_answers, has_failure, steps_of};
 use crate::fault::{CaseFault, How};
 use crate::folder::run_in_folder;
+use crate::keeps::run_keeps;
 use crate::memory::run_in_memory;
+use crate::refuse::run_refusals;
 use crate::spoil::run_spoils;
 use crate::stops::run_stops;
 use crate::sweep::run_sweeps;
@@ -151,8 +153,8 @@ fn run_case<T: Threads + Wait + Clock + Sync>(
     Ok(count_answers(steps.as_slice()))
 }
 
-// Runs the steps of a case in memory, under each failure of its sweeps, stopped at each call, over spoilt files, and in a folder if its
-// device does not fail.
+// Runs the steps of a case in memory, under each failure of its sweeps and of the logs that keep their items, stopped at each call, over
+// spoilt files, with each call refused memory, and in a folder if its device does not fail.
 fn run_steps(
     rt: &HostRuntime,
     steps: &[Step<'_>],
@@ -161,8 +163,10 @@ fn run_steps(
 ) -> Result<(), CaseFault> {
     run_in_memory(rt.alloc(), steps, trial)?;
     run_sweeps(rt.alloc(), steps, trial)?;
+    run_keeps(rt.alloc(), steps, trial)?;
     run_stops(rt.alloc(), steps, trial)?;
     run_spoils(rt.alloc(), steps, trial)?;
+    run_refusals(rt.alloc(), steps, trial)?;
     if has_failure(steps) {
         return Ok(());
     }

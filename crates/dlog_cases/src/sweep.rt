@@ -3,6 +3,7 @@ pub mod course;
 pub mod items;
 mod judge;
 pub mod run;
+mod status;
 
 use self::course::{Course, records_of, texts_of};
 use self::items::verb_of;
@@ -86,7 +87,12 @@ pub fn opened_log(line: Line<'_>) -> Option<&str> {
 // Whether a step may stand in a case about this log that is swept.
 fn may_be_swept(step: Step<'_>, log: &str) -> bool {
     match step {
-        Step::Blocks(_) | Step::File(_) | Step::Sweep(_) | Step::Stops(_) => true,
+        Step::Blocks(_)
+        | Step::File(_)
+        | Step::Sweep(_)
+        | Step::Stops(_)
+        | Step::Keep(_)
+        | Step::Refuse(_) => true,
         Step::Line(line) => match deed_of(line) {
             Deed::Call {
                 client,
@@ -112,16 +118,13 @@ fn sweep_fuses(course: &Course<'_>, trial: &mut Trial) -> Result<(), CaseFault> 
 // Lets the device fail after no call, after one and so on, until no call is left to fail. Returns after how many that is.
 fn sweep_calls(course: &Course<'_>, fuse: Fuse, trial: &mut Trial) -> Result<u64, CaseFault> {
     for calls in 0..CALLS_LIMIT {
+        let base = course.sweep.base;
         let failure = Failure {
-            base: course.sweep.base,
+            base: Some(base),
             calls,
             fuse,
         };
-        trial.how = How::Failing {
-            base: failure.base,
-            calls,
-            fuse,
-        };
+        trial.how = How::Failing { base, calls, fuse };
         if !try_failure(course, failure, &mut trial.told)? {
             return Ok(calls);
         }

@@ -2,6 +2,7 @@
 use crate::case::{BAD_LINE, Line, Step, has_failure};
 use crate::fault::{CaseFault, How};
 use crate::folder::{lay_in_folder, open_folder};
+use crate::fuse::counted;
 use crate::memory::{disk_under, live_in_memory};
 use crate::script::{lines_of, script_of};
 use crate::trial::Trial;
@@ -53,9 +54,10 @@ fn run_lives_in_memory<T: Threads + Wait + Clock + Sync>(
     let mut files = MemoryDisk::new(alloc);
     let mut left = MemoryDisk::new(alloc);
     for life in steps.split(|step| matches!(step, Step::Again)) {
-        let disk = disk_under(alloc, &files, life)?;
-        run_on(handle, alloc, disk, life, trial)?;
-        live_in_memory(alloc, &files, life, &mut left, trial)?;
+        let life = counted(alloc, &files, life, trial)?;
+        let disk = disk_under(alloc, &files, life.as_slice())?;
+        run_on(handle, alloc, disk, life.as_slice(), trial)?;
+        live_in_memory(alloc, &files, life.as_slice(), &mut left, trial)?;
         mem::swap(&mut files, &mut left);
     }
     Ok(())

@@ -82,6 +82,11 @@ impl Course<'_> {
         }
     }
 
+    /// The line that ends a run.
+    pub fn end_line(&self, end: End) -> &str {
+        self.look(end).lines().last().unwrap_or("")
+    }
+
     /// Whether what a sync or a close writes after a line need not be in the files of the log's base: the log was moved by a line up to
     /// this one, or is read alone.
     pub fn is_elsewhere(&self, at: usize) -> bool {

@@ -10,6 +10,9 @@ pub const PROBE_ANSWERS: usize = 6;
 /// The answer to a probe of a log that is not open.
 pub const NO_LOG: &str = "E2 no_such_log";
 
+/// The answer of a full log to items.
+pub const FULL: &str = "E14 full";
+
 /// The answer to an open of a log that needs no repair.
 pub const OPENED: &str = "opened";
 
@@ -81,8 +84,9 @@ fn may_end(line: &str) -> bool {
     matches!(verb_of(line), Some("open" | "close" | "exit" | "reopen"))
 }
 
-/// Whether a log may have this after a line whose answer is a fault: what it had before the line, what it has after the line without a
-/// fault, or what a call that adds items one by one had left when it stopped.
+/// Whether a log may have this after a line whose answer is a fault: what it had before the line, or what a call that adds items one by one
+/// had left when it stopped before one of them; or what it has after the line without a fault, if owners were told that it was emptied or
+/// began its next file, or if it was opened after all.
 pub fn is_left(
     alloc: Global,
     line: &str,
@@ -92,16 +96,38 @@ pub fn is_left(
     has: &str,
 ) -> Result<bool, AllocError> {
     if has == NO_LOG {
-        return Ok(may_end(line));
+        return Ok(may_end(line) && !is_repaired(answer));
     }
-    if has == before || has == after {
-        return Ok(true);
+    match verb_of(line) {
+        Some("log" | "alog") => {
+            let all = with_sent(alloc, before, line)?;
+            is_midway(alloc, before, all.as_str(), lost_in(answer), has)
+        }
+        Some("open") => Ok(is_repaired(answer) && has == after),
+        Some("truncate") if answer.contains(" truncated ") => Ok(has == after),
+        Some("nextfile") if answer.contains(" wrap ") => Ok(has == after),
+        _ => Ok(has == before),
     }
-    if !matches!(verb_of(line), Some("log" | "alog" | "nextfile")) {
-        return Ok(false);
+}
+
+/// Whether a line that met a fault may be answered so when it is given again, and no call fails any more: as without a fault, but that what
+/// the first try did stands. A halt log may be full by then, and a log may have ended.
+pub fn may_answer_again(line: &str, wanted: &str, answer: &str) -> bool {
+    let reply = reply_of(answer);
+    match verb_of(line) {
+        Some("log" | "alog") => is_done(reply) || reply == FULL,
+        Some("truncate" | "nextfile" | "size" | "sync") => is_done(reply),
+        Some("reopen") => is_done(reply) || reply == NO_LOG,
+        Some("close") => reply == NO_LOG,
+        Some("open") => reply == OPENED || is_repaired(reply),
+        Some("chunk") => reply == reply_of(wanted) || is_next(line) && reply.starts_with(ITEMS),
+        _ => reply == reply_of(wanted),
     }
-    let all = with_sent(alloc, before, line)?;
-    is_midway(alloc, before, all.as_str(), lost_in(answer), has)
+}
+
+// Whether a chunk goes on where the last one ended. In a new script it begins at the start.
+fn is_next(line: &str) -> bool {
+    line.split(' ').skip(3).next() == Some("next")
 }
 
 // The items of a log, and after them those that a line sends.
@@ -138,7 +164,7 @@ fn lost_by(notice: &str) -> Option<usize> {
     count.parse::<usize>().ok()
 }
 
-// Whether a log has what a call left that stopped midway: all items but the `lost` first ones, up to some item after those before.
+// Whether a log has what a call left that stopped before one of its items: all items but the `lost` first ones, up to that one.
 fn is_midway(
     alloc: Global,
     before: &str,
@@ -151,7 +177,8 @@ fn is_midway(
     let has = items_of(alloc, has)?;
     let left = all.as_slice().get(lost..).unwrap_or(&[]);
     let count = lost.saturating_add(has.len());
-    Ok(before.len() <= count && left.starts_with(has.as_slice()))
+    let is_within = before.len() <= count && count < all.len();
+    Ok(is_within && left.starts_with(has.as_slice()))
 }
 
 /// The items that a probe found, one by one.
@@ -162,6 +189,16 @@ pub fn items_of(alloc: Global, seen: &str) -> Result<Vec<&str>, AllocError> {
 /// Whether an answer is `done`, maybe with notices.
 pub fn is_done(answer: &str) -> bool {
     answer == "done" || answer.starts_with("done | ")
+}
+
+/// An answer without its notices.
+pub fn reply_of(answer: &str) -> &str {
+    answer.split(" | ").next().unwrap_or(answer)
+}
+
+/// Whether an answer, or a status, is a fault of the device.
+pub fn is_refused_by_fault(answer: &str) -> bool {
+    answer.starts_with("E24 device_fault ")
 }
 
 /// The answer to the first of two opens, or to the second if the log has another size than the first asks for.

@@ -1,11 +1,12 @@
 // What a fault may leave.
 use super::course::{Course, End, Record};
 use super::items::{
-    NO_LOG, OPENED, PARTED, answers_of, is_done, is_left, is_repaired, is_sound, opened_in,
-    seen_in, verb_of,
+    NO_LOG, OPENED, PARTED, answers_of, is_done, is_left, is_repaired, is_sound, may_answer_again,
+    opened_in, reply_of, seen_in, verb_of,
 };
 use super::run::Run;
-use crate::case::Failure;
+use super::status::{Standing, tells_first_of};
+use crate::case::{Failure, Line};
 use crate::fault::CaseFault;
 use crate::script::{script_of, tell};
 use dl_disk::MemoryDisk;
@@ -33,8 +34,31 @@ pub fn judge(
     if let Some(other) = &other {
         judge_line(course, failure, other, told)?;
     }
+    judge_statuses(course, run.first.as_str(), told)?;
     judge_files(course, &run.files, &other, told)?;
     Ok(true)
+}
+
+// Judges whether answers to the first lines tell the error status where it changes. Returns what stands after them.
+fn judge_statuses<'a>(
+    course: &Course<'_>,
+    answers: &'a str,
+    told: &mut String,
+) -> Result<Standing<'a>, CaseFault> {
+    let mut now = Standing::default();
+    for (line, answer) in course.texts.lines.iter().zip(answers.lines()) {
+        let Some(next) = now.after(line.text, answer) else {
+            return Err(untold(*line, answer, told)?);
+        };
+        now = next;
+    }
+    Ok(now)
+}
+
+// Why a line fails whose answer does not tell the error status as it changes.
+fn untold(line: Line<'_>, answer: &str, told: &mut String) -> Result<CaseFault, CaseFault> {
+    tell(told, "\n  got:    ", answer.as_bytes())?;
+    Ok(CaseFault::BadStatus(line.number))
 }
 
 // The first line with another answer than without a fault, if there is one.
@@ -47,7 +71,8 @@ fn first_other<'a>(records: &'a [Record<'a>], answers: &'a str) -> Option<Other<
         .find(|other| other.record.answer.as_str() != other.answer)
 }
 
-// Judges the first line with another answer: that answer, and what its log has then, which a sync and a close keep.
+// Judges the first line with another answer: that answer, what its log has then, which a sync and a close keep, and what the line is answered
+// when it is given again.
 fn judge_line(
     course: &Course<'_>,
     failure: Failure,
@@ -57,16 +82,23 @@ fn judge_line(
     judge_answer(course, other, told)?;
     let script = script_of(course.alloc, course.lines_to(other.at))?;
     try_lines(course, failure, other, script.as_str(), End::Sync, told)?;
-    try_lines(course, failure, other, script.as_str(), End::Close, told)
+    try_lines(course, failure, other, script.as_str(), End::Close, told)?;
+    if is_repaired(other.answer) {
+        return Ok(());
+    }
+    try_line_again(course, failure, other, script.as_str(), told)
 }
 
-// Judges an answer that is not the wanted one: it reports the fault, or a repair after a fault that no answer reported.
+// Judges an answer that is not the wanted one: it reports the fault, and what was done before it, or a repair after a fault that no answer
+// reported.
 fn judge_answer(
     course: &Course<'_>,
     other: &Other<'_>,
     told: &mut String,
 ) -> Result<(), CaseFault> {
-    if other.answer.starts_with("repaired ") || is_fault(course, other.answer) {
+    let whole = other.record.answer.as_str();
+    let is_first = tells_first_of(course.alloc, other.answer, whole)?;
+    if is_repaired(other.answer) || is_first && is_fault(course, other.answer) {
         return Ok(());
     }
     tell(
@@ -80,7 +112,7 @@ fn judge_answer(
 
 // Whether an answer reports a fault at the base of a sweep, or a turn that failed.
 fn is_fault(course: &Course<'_>, answer: &str) -> bool {
-    let answer = answer.split(" | ").next().unwrap_or(answer);
+    let answer = reply_of(answer);
     if let Some(log) = answer.strip_prefix("turn fault ") {
         return log == course.log;
     }
@@ -104,6 +136,26 @@ fn try_lines(
     judge_left(course, other, &run, end, told)
 }
 
+// Runs the lines up to one with a device that fails so, mends the device and gives the last line again. Judges what that is answered.
+fn try_line_again(
+    course: &Course<'_>,
+    failure: Failure,
+    other: &Other<'_>,
+    script: &str,
+    told: &mut String,
+) -> Result<(), CaseFault> {
+    let line = other.record.line;
+    let run = course.run(&course.files, Some(failure), script, line.text)?;
+    let now = judge_statuses(course, run.first.as_str(), told)?;
+    let answer = run.second.lines().next().unwrap_or("");
+    let wanted = other.record.answer.as_str();
+    if may_answer_again(line.text, wanted, answer) && now.after(line.text, answer).is_some() {
+        return Ok(());
+    }
+    tell(told, "\n  again:  ", answer.as_bytes())?;
+    Err(CaseFault::NotDone(line.number))
+}
+
 // Judges what a log has after a line with a fault, and whether what ends the run keeps it.
 fn judge_left(
     course: &Course<'_>,
@@ -118,8 +170,9 @@ fn judge_left(
     if has.as_str() == NO_LOG || course.is_elsewhere(other.at) {
         return Ok(());
     }
+    let now = judge_statuses(course, run.first.as_str(), told)?;
     let ended = answers.last().copied().unwrap_or("");
-    judge_end(other, ended, told)?;
+    judge_end(other, now, course.end_line(end), ended, told)?;
     try_again(course, other, has.as_str(), &run.files, end, told)
 }
 
@@ -142,9 +195,15 @@ fn judge_items(
     Err(CaseFault::Loses(line.number))
 }
 
-// Judges the answer to the sync or the close at the end of a run.
-fn judge_end(other: &Other<'_>, answer: &str, told: &mut String) -> Result<(), CaseFault> {
-    if is_done(answer) {
+// Judges the answer to the sync or the close at the end of a run, by which the error status is over.
+fn judge_end(
+    other: &Other<'_>,
+    now: Standing<'_>,
+    line: &str,
+    answer: &str,
+    told: &mut String,
+) -> Result<(), CaseFault> {
+    if is_done(answer) && now.after(line, answer).is_some() {
         return Ok(());
     }
     tell(told, "\n  got:    ", answer.as_bytes())?;
