@@ -1,42 +1,50 @@
 -- Flushes one after another.
-use Rattle.std.proofs.Common.{◌≡◌, ◌<◌, inl, inr, ℕ, suc, List, [], ◌∷◌, Bool, true, false, true≢false, ◌&&◌, nat_lt, Some, length, drop, replicate, refl, sym, ap, subst, ◌∙◌, append-nil, arith}
+use Rattle.std.proofs.Common.{◌≡◌, ◌<◌, inl, inr, ℕ, suc, List, [], None, Bool, true, false, true≢false, ◌&&◌, nat_lt, length, replicate, refl, sym, ap, subst, ◌∙◌, append-nil}
 use Rattle.std.specs.List.{flat_map}
 use Rattle.dl_types.specs.Notice.{Told}
 use Rattle.dl_types.specs.declared.event.Event.TheVariants as event
+use Rattle.dl_types.specs.declared.name.Name.{Name}
 use Rattle.dl_types.specs.declared.reply.Outcome.{Outcome}
 use Rattle.dl_types.specs.declared.reply.Reply.TheVariants as reply
 use Rattle.dl_types.specs.declared.reply.Turn.{Turn}
 use Rattle.dl_types.specs.declared.reply.Turn.TheVariants as turn
-use Rattle.dl_cache.specs.declared.chain.Chain as cache
-use Rattle.dl_cache.specs.Entries.{Entry, oldest_of}
 use Rattle.dl_disk.specs.Disk.{DiskState}
-use Rattle.std.proofs.lemmas.Option.{none-some}
-use Rattle.dl_hub.specs.View.{HubView}
-use Rattle.dl_hub.specs.Flush.{IsTurnOf, IsTurn}
+use Rattle.dl_hub.specs.View.{HubView, log_at}
+use Rattle.dl_hub.specs.Flush.{IsTurnOf, IsTurn, turns_left}
 use Rattle.dl_hub.specs.Step.{IsStep}
 use Rattle.dl_wire.specs.declared.limits.TheConstants.{SUSPENDED_LIMIT}
+use Rattle.dl_serve.specs.declared.left.Left.{Left}
 use Rattle.dl_serve.specs.Event.{has_drained, is_suspended}
 use Rattle.dl_serve.specs.Asked.{Stage, Chain, IsAsked, notice_frame, outcome_frames, will_wait, with_waiting}
-use Rattle.dl_serve.specs.Serve.{IsFlushed}
+use Rattle.dl_serve.specs.Left.{is_nothing, left_of, IsWritten}
+use Rattle.dl_serve.specs.Serve.{IsFlushed, IsLastFlushed}
 use Rattle.dl_serve.proofs.Chains.{chain_more, replicate_more}
 
--- without its first entry a cache has fewer
-shorter : (old new : List Entry) (c : cache.Chain) → oldest_of old ≡ Some c → new ≡ drop 1 old → length new < length old
-shorter [] new c none is = absurd (none-some c none)
-shorter (e ∷ es) new c some is = let len = ap length is in omega (arith, len)
-
 module _ {D : Type 0} (Z : Type 0) (state : D → DiskState) where
-  drains : (old new : HubView D) (t : Turn) → IsTurnOf state old new t → has_drained {Z = Z} (reply.Turn t) ≡ true → length new.cache.entries < length old.cache.entries
-  drains old new (turn.Drained L) is wrote = shorter old.cache.entries new.cache.entries is.0.0 is.0.1 is.1
+  drains : (old new : HubView D) (t : Turn) → IsTurnOf state old new t → has_drained {Z = Z} (reply.Turn t) ≡ true → turns_left new < turns_left old
+  drains old new (turn.Drained L) is wrote = is.0
   drains old new turn.Idle is none = absurd (true≢false (sym none))
   drains old new (turn.Fault L) is none = absurd (true≢false (sym none))
 
+  idle : (old new : HubView D) (t : Turn) → IsTurnOf state old new t → is_nothing (left_of {Z = Z} (reply.Turn t)) ≡ true → IsWritten new
+  idle old new turn.Idle is found = (ap (λ (hub : HubView D). hub.cache.entries) is.2 ∙ is.0, subst (λ (hub : HubView D). (L : Name) → log_at hub.lingering L ≡ None) (sym is.2) is.1)
+  idle old new (turn.Drained L) is none = absurd (true≢false (sym none))
+  idle old new (turn.Fault L) is none = absurd (true≢false (sym none))
+
 module _ {D Z : Type 0} (state : D → DiskState) where
-  -- a turn that wrote a block has left one fewer
-  pub fewer : (old new : HubView D) (o : Outcome Z) → IsStep state old new event.Flush o → has_drained o.reply ≡ true → length new.cache.entries < length old.cache.entries
+  -- after a turn that leaves nothing nothing waits, and no log lingers
+  pub nothing_left : (old new : HubView D) (o : Outcome Z) → IsStep state old new event.Flush o → is_nothing (left_of o.reply) ≡ true → IsWritten new
+  nothing_left old new o step found = by (step.turn refl)
+    where
+      by : IsTurn state old new o.reply → IsWritten new
+      by (inl t) = idle Z state old new t.0 t.2 (sym (ap (λ r. is_nothing (left_of r)) t.1) ∙ found)
+      by (inr want) = absurd (true≢false (sym found ∙ ap (λ r. is_nothing (left_of r)) want.0))
+
+  -- after a turn that drained fewer are left
+  pub fewer : (old new : HubView D) (o : Outcome Z) → IsStep state old new event.Flush o → has_drained o.reply ≡ true → turns_left new < turns_left old
   fewer old new o step wrote = by (step.turn refl)
     where
-      by : IsTurn state old new o.reply → length new.cache.entries < length old.cache.entries
+      by : IsTurn state old new o.reply → turns_left new < turns_left old
       by (inl t) = drains Z state old new t.0 t.2 (sym (ap has_drained t.1) ∙ wrote)
       by (inr want) = absurd (true≢false (sym wrote ∙ ap has_drained want.0))
 
@@ -49,10 +57,10 @@ module _ {D Z : Type 0} (state : D → DiskState) where
       by (inr want) = ap is_suspended want.0
 
   -- a flush calls no waiting call up
-  pub flush_asked : (tag : ℕ) (old new : Stage D Z) (o : Outcome Z) → IsStep state old.hub new.hub event.Flush o
+  pub flush_is : (tag : ℕ) (old new : Stage D Z) (o : Outcome Z) → IsStep state old.hub new.hub event.Flush o
       → new.waiting ≡ with_waiting (will_wait o old.waiting) tag event.Flush old.waiting → new.clients ≡ old.clients
-      → (drained : Bool) → has_drained o.reply ≡ drained → IsFlushed state drained tag old new (outcome_frames (will_wait o old.waiting) tag o)
-  flush_asked tag old new o step waiting clients drained is =
+      → (asked : IsAsked state tag event.Flush old new (outcome_frames (will_wait o old.waiting) tag o)) × (asked.outcome ≡ o)
+  flush_is tag old new o step waiting clients =
       let asked : IsAsked state tag event.Flush old new (outcome_frames (will_wait o old.waiting) tag o) = record {
         outcome = o;
         mid = new.hub;
@@ -61,7 +69,21 @@ module _ {D Z : Type 0} (state : D → DiskState) where
         wakes = (refl, waiting, refl);
         clients = clients;
         whole = sym (append-nil (outcome_frames (will_wait o old.waiting) tag o));
-      } in (asked, is)
+      } in (asked, refl)
+
+  flush_asked : (tag : ℕ) (old new : Stage D Z) (o : Outcome Z) → IsStep state old.hub new.hub event.Flush o
+      → new.waiting ≡ with_waiting (will_wait o old.waiting) tag event.Flush old.waiting → new.clients ≡ old.clients
+      → (drained : Bool) → has_drained o.reply ≡ drained → IsFlushed state drained tag old new (outcome_frames (will_wait o old.waiting) tag o)
+  flush_asked tag old new o step waiting clients drained is =
+      let flush = flush_is tag old new o step waiting clients in (flush.0, ap (λ (p : Outcome Z). has_drained p.reply) flush.1 ∙ is)
+
+  -- the last flush says what is left
+  pub flush_last : (tag : ℕ) (old new : Stage D Z) (o : Outcome Z) (left : Left) → IsStep state old.hub new.hub event.Flush o
+      → new.waiting ≡ with_waiting (will_wait o old.waiting) tag event.Flush old.waiting → new.clients ≡ old.clients
+      → has_drained o.reply ≡ false → left ≡ left_of o.reply → IsLastFlushed state tag left old new (outcome_frames (will_wait o old.waiting) tag o)
+  flush_last tag old new o left step waiting clients none told =
+      let flush = flush_is tag old new o step waiting clients in
+      (flush.0, ap (λ (p : Outcome Z). has_drained p.reply) flush.1 ∙ none, told ∙ sym (ap (λ (p : Outcome Z). left_of p.reply) flush.1))
 
   -- one that asks for no answer gets none
   pub flush_unasked : (old new : Stage D Z) (o : Outcome Z) → IsStep state old.hub new.hub event.Flush o → new.waiting ≡ old.waiting → new.clients ≡ old.clients
@@ -72,7 +94,7 @@ module _ {D Z : Type 0} (state : D → DiskState) where
       let silent : outcome_frames (will_wait o old.waiting) 0 o ≡ [] = ap (λ (b : Bool). outcome_frames b 0 o) waits ∙ ap (λ (ns : List Told). flat_map notice_frame ns) ((step.turn_told refl).silent (λ L failed. true≢false (sym is ∙ ap has_drained failed))) in
       subst (λ (f : List ℕ). IsFlushed state true 0 old new f) silent (flush_asked 0 old new o step stays clients true is)
 
-  -- one more of the flushes that wrote a block
+  -- one more of the flushes that drained a log
   pub flushed_more : (n : ℕ) (old mid new : Stage D Z) → Chain (λ drained. IsFlushed state drained 0) (replicate n true) old mid [] → IsFlushed state true 0 mid new []
       → Chain (λ drained. IsFlushed state drained 0) (replicate (suc n) true) old new []
   flushed_more n old mid new chain step =

@@ -1,5 +1,6 @@
 pub mod Event
 pub mod Frames
+pub mod Left
 pub mod Asked
 pub mod Serve
 pub mod Session

@@ -1,5 +1,5 @@
 -- A stream of frames, and what is answered.
-use Rattle.std.specs.Prelude.{◌≡◌, ◌==◌, ◌⊎◌, ℕ, List, [], ◌++◌, Bool, true, false, Option, Err, ⊤, replicate, if◌then◌else◌}
+use Rattle.std.specs.Prelude.{◌≡◌, ◌==◌, ◌⊎◌, ◌<◌, ◌+◌, ℕ, List, [], ◌∷◌, ◌++◌, All, Bool, true, false, Option, Err, ⊤, length, replicate, if◌then◌else◌}
 use Rattle.std.specs.Io.KnownBytes.{Appends}
 use Rattle.dl_types.specs.declared.event.Event.TheVariants as event
 use Rattle.dl_disk.specs.Disk.{DiskState}
@@ -12,13 +12,17 @@ use Rattle.dl_wire.specs.Answer.{bad_text, welcome_text, frame_text}
 use Rattle.dl_wire.specs.Decode.{request_in}
 use Rattle.dl_wire.specs.Fits.{IsRequest}
 use Rattle.dl_wire.specs.Request.{request_text}
+use Rattle.dl_serve.specs.declared.leave.TheConstants.{TRIES}
+use Rattle.dl_serve.specs.declared.left.Left.{Left}
 use Rattle.dl_serve.specs.declared.stream.Ended.{Ended}
 use Rattle.dl_serve.specs.declared.stream.Ended.TheVariants as ended
+use Rattle.dl_serve.specs.declared.stream.Served.{Served}
 use Rattle.dl_serve.specs.declared.stream.Stop.{Stop}
 use Rattle.dl_serve.specs.declared.stream.Stop.TheVariants as stop
 use Rattle.dl_serve.specs.Event.{has_drained}
 use Rattle.dl_serve.specs.Asked.{Stage, Chain, IsAsked}
 use Rattle.dl_serve.specs.Frames.{IsLong, IsPartial, HasFrames, tag_of}
+use Rattle.dl_serve.specs.Left.{is_nothing, left_of}
 
 -- the beginning: no call waits, and no client is known
 abbrev pub first_stage : {D Z : Type 0} → HubView D → Stage D Z
@@ -29,20 +33,24 @@ abbrev pub welcome_frame : ℕ → List ℕ
 welcome_frame tag = if tag == 0 then [] else frame_text (welcome_text tag VERSION FRAME_LIMIT SUSPENDED_LIMIT)
 
 module _ {D Z : Type 0} (state : D → DiskState) where
-  -- a flush whose turn wrote a block, or wrote none
+  -- a flush whose turn drained a log, or drained none
   abbrev pub IsFlushed : Bool → ℕ → Stage D Z → Stage D Z → List ℕ → Type 0
   IsFlushed drained tag old new frames = (asked : IsAsked state tag event.Flush old new frames) × (has_drained asked.outcome.reply ≡ drained)
 
-  -- flushes one after another: each of the first n wrote a block and gets no answer, and one more wrote none. With it they end, and its turn is the answer
-  abbrev pub IsAllFlushed : ℕ → Stage D Z → Stage D Z → List ℕ → Type 0
-  IsAllFlushed tag old new frames =
-      (n : ℕ) × (mid : Stage D Z) × Chain (λ drained. IsFlushed drained 0) (replicate n true) old mid [] × IsFlushed false tag mid new frames
+  -- a flush whose turn drained no log, and says what is left
+  abbrev pub IsLastFlushed : ℕ → Left → Stage D Z → Stage D Z → List ℕ → Type 0
+  IsLastFlushed tag left old new frames = (asked : IsAsked state tag event.Flush old new frames) × (has_drained asked.outcome.reply ≡ false) × (left ≡ left_of asked.outcome.reply)
+
+  -- flushes one after another: each of the first n drained a log and gets no answer, and one more drained none. With it they end, and its turn is the answer and says what is left
+  abbrev pub IsAllFlushed : ℕ → Left → Stage D Z → Stage D Z → List ℕ → Type 0
+  IsAllFlushed tag left old new frames =
+      (n : ℕ) × (mid : Stage D Z) × Chain (λ drained. IsFlushed drained 0) (replicate n true) old mid [] × IsLastFlushed tag left mid new frames
 
   -- what a request does
   abbrev pub IsDone : ℕ → Ask Z → Stage D Z → Stage D Z → List ℕ → Type 0
   IsDone tag (ask.Hello version) old new frames = (new ≡ old) × (frames ≡ welcome_frame tag)
   IsDone tag (ask.Event e) old new frames = IsAsked state tag e old new frames
-  IsDone tag ask.All old new frames = IsAllFlushed tag old new frames
+  IsDone tag ask.All old new frames = (left : Left) × IsAllFlushed tag left old new frames
 
   -- the text of a request, which is done; or a text that is none, which is told by the place of its first wrong part
   abbrev pub IsServed : List ℕ → Stage D Z → Stage D Z → List ℕ → Type 0
@@ -50,10 +58,18 @@ module _ {D Z : Type 0} (state : D → DiskState) where
       ((r : Request Z) × IsRequest r × (text ≡ request_text r) × IsDone r.tag r.ask old new frames)
       ⊎ ((place : ℕ) × (request_in {Z = Z} text ≡ Err place) × (new ≡ old) × (frames ≡ frame_text (bad_text (tag_of text) place)))
 
-  -- the end: the clients leave, after which none is known, and then all that waits is flushed
-  abbrev pub IsLeft : Stage D Z → Stage D Z → List ℕ → Type 0
-  IsLeft old new frames =
-      (mid : Stage D Z) × (first : List ℕ) × (last : List ℕ) × Chain (λ client. IsAsked state 0 (event.Exit client)) old.clients (record old { clients = [] }) mid first × IsAllFlushed 0 mid new last × (frames ≡ first ++ last)
+  -- all that waits or lingers is flushed, and again while something is left, but so often at most; this is what the last time has left
+  pub record IsWrittenOut (left : Left) (old new : Stage D Z) (frames : List ℕ) : Type 0 where
+    pub before : List Left
+    pub flushed : Chain (IsAllFlushed 0) (before ++ left ∷ []) old new frames
+    pub some : All (λ (was : Left). is_nothing was ≡ false) before
+    pub within : length before < TRIES
+    pub spent : is_nothing left ≡ false → length before + 1 ≡ TRIES
+
+  -- the end: the clients leave, after which none is known, and then all is written, but for what is left
+  abbrev pub Leaves : Left → Stage D Z → Stage D Z → List ℕ → Type 0
+  Leaves left old new frames =
+      (mid : Stage D Z) × (first : List ℕ) × (last : List ℕ) × Chain (λ client. IsAsked state 0 (event.Exit client)) old.clients (record old { clients = [] }) mid first × IsWrittenOut left mid new last × (frames ≡ first ++ last)
 
 -- what stands where the frames end: less than one, or the beginning of one that is too long, which is told
 abbrev pub IsRest : Ended → List ℕ → List ℕ → Type 0
@@ -77,7 +93,7 @@ pub record IsTaken {D Z : Type 0} (state : D → DiskState) (how : Ended) (strea
   pub sent : Appends written after answers
 
 -- a stream was served: each of its frames in order, and then its end. What was written are the answers in this order
-pub record Serves {D : Type 0} (state : D → DiskState) (Z : Type 0) (how : Ended) (stream : Option (List ℕ)) (old new : HubView D) (written after : Option (List ℕ)) : Type 0 where
+pub record Serves {D : Type 0} (state : D → DiskState) (Z : Type 0) (served : Served) (stream : Option (List ℕ)) (old new : HubView D) (written after : Option (List ℕ)) : Type 0 where
   pub texts : List (List ℕ)
   pub rest : List ℕ
   pub mid : Stage D Z
@@ -86,8 +102,8 @@ pub record Serves {D : Type 0} (state : D → DiskState) (Z : Type 0) (how : End
   pub told : List ℕ
   pub farewell : List ℕ
   pub framed : HasFrames stream texts rest
-  pub served : Chain (IsServed state) texts (first_stage old) mid answers
-  pub ended : IsRest how rest told
-  pub left : IsLeft state mid last farewell
+  pub done : Chain (IsServed state) texts (first_stage old) mid answers
+  pub ended : IsRest served.ended rest told
+  pub left : Leaves state served.left mid last farewell
   pub hub : last.hub ≡ new
   pub whole : Appends written after (answers ++ (told ++ farewell))

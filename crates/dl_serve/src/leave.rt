@@ -1,12 +1,14 @@
-// Blocks that are written, and clients that leave.
-ghost use Rattle.std.specs.Prelude.{◌≡◌, ◌++◌, ℕ, List, OnOk};
+// Blocks that are written, logs that are finished, and clients that leave.
+ghost use Rattle.std.specs.Prelude.{◌≡◌, ◌++◌, ℕ, List, true, IfOk, OnOk};
 ghost use Rattle.dl_types.specs.declared.event.Event.TheVariants as event;
 ghost use Rattle.dl_serve.specs.Asked.{Chain, IsAsked};
-ghost use Rattle.dl_serve.specs.Serve.{IsAllFlushed, IsLeft};
+ghost use Rattle.dl_serve.specs.Left.{is_nothing, IsWritten};
+ghost use Rattle.dl_serve.specs.Serve.{IsAllFlushed, IsWrittenOut, Leaves};
 ghost use Rattle.dl_serve.specs.Session.{stage_of};
 
 use crate::event::has_drained;
 use crate::fault::ServeFault;
+use crate::left::{Left, left_of};
 use crate::session::Session;
 use dl_disk::Disk;
 use dl_hub::Hub;
@@ -14,22 +16,43 @@ use dl_types::{ClientId, Event};
 use std::alloc::Allocator;
 use std::mem;
 
+/// How often at most all is flushed as a stream ends. The tries follow one another at once, since there is no clock here: a fault
+/// that passes, as that of a write which was interrupted, is over by the next try or the one after it, and one that stays, as
+/// that of a full device, is met by any number of them.
+pub const TRIES: u32 = 4;
+
 impl<A: Allocator + Copy> Session<A> {
-    /// Writes blocks, the oldest first, until a turn writes none: nothing waits, or the device fails. That turn is the answer.
+    /// Writes blocks, the oldest first, and finishes the logs that linger, until a turn does neither: nothing is left, or the
+    /// device fails. That turn is the answer, and says what is left.
     pub fn flush_all<D: Disk + Drop>(
         &mut self,
         tag: u32,
         hub: &mut Hub<D, A>,
-    ) -> Result<(), ServeFault>
-        ensures { OnOk result ((frames : List ℕ) × IsAllFlushed D.state tag (stage_of hub.old self.old) (stage_of hub.new self.new) frames × (self.new.frames.items ≡ self.old.frames.items ++ frames)) }
+    ) -> Result<Left, ServeFault>
+        ensures flushed { IfOk result (λ left. (frames : List ℕ) × IsAllFlushed D.state tag left (stage_of hub.old self.old) (stage_of hub.new self.new) frames × (self.new.frames.items ≡ self.old.frames.items ++ frames)) }
+        ensures written { IfOk result (λ left. is_nothing left ≡ true → IsWritten hub.new) }
     {
         loop {
             let turn = hub.apply(&Event::Flush);
             if !has_drained(&turn.reply) {
                 self.answer(tag, Event::Flush, &turn)?;
-                return Ok(());
+                return Ok(left_of(&turn.reply));
             }
         }
+    }
+
+    // Flushes all, and again while something is left, as often as that is tried. Returns what is left.
+    fn write_out<D: Disk + Drop>(&mut self, hub: &mut Hub<D, A>) -> Result<Left, ServeFault>
+        ensures flushed { IfOk result (λ left. (frames : List ℕ) × IsWrittenOut D.state left (stage_of hub.old self.old) (stage_of hub.new self.new) frames × (self.new.frames.items ≡ self.old.frames.items ++ frames)) }
+        ensures written { IfOk result (λ left. is_nothing left ≡ true → IsWritten hub.new) }
+    {
+        for tries in 1..TRIES {
+            let left = self.flush_all(0, hub)?;
+            if left.is_nothing() {
+                return Ok(left);
+            }
+        }
+        self.flush_all(0, hub)
     }
 
     // Has clients leave, one after another.
@@ -47,13 +70,14 @@ impl<A: Allocator + Copy> Session<A> {
         Ok(())
     }
 
-    /// Ends what the stream began: each client leaves, and all that waits is written.
-    pub fn leave<D: Disk + Drop>(&mut self, hub: &mut Hub<D, A>) -> Result<(), ServeFault>
-        ensures { OnOk result ((frames : List ℕ) × IsLeft D.state (stage_of hub.old self.old) (stage_of hub.new self.new) frames × (self.new.frames.items ≡ self.old.frames.items ++ frames)) }
+    /// Ends what the stream began: each client leaves, and all that waits is written, also of logs that linger. Returns what
+    /// is left of it, after as many tries as [`TRIES`] says if the device fails.
+    pub fn leave<D: Disk + Drop>(&mut self, hub: &mut Hub<D, A>) -> Result<Left, ServeFault>
+        ensures left { IfOk result (λ left. (frames : List ℕ) × Leaves D.state left (stage_of hub.old self.old) (stage_of hub.new self.new) frames × (self.new.frames.items ≡ self.old.frames.items ++ frames)) }
+        ensures written { IfOk result (λ left. is_nothing left ≡ true → IsWritten hub.new) }
     {
         let clients = mem::replace(&mut self.clients, Vec::new(self.alloc));
         self.exit_all(clients.as_slice(), hub)?;
-        self.flush_all(0, hub)?;
-        Ok(())
+        self.write_out(hub)
     }
 }

@@ -6,9 +6,11 @@ mod event;
 mod fault;
 mod frames;
 mod leave;
+mod left;
 mod session;
 mod stream;
 mod waiting;
 
 pub use fault::ServeFault;
-pub use stream::{Ended, serve};
+pub use left::Left;
+pub use stream::{Ended, Served, serve};

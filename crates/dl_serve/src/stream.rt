@@ -1,15 +1,17 @@
 // A stream from its first frame to its last.
-ghost use Rattle.std.specs.Prelude.{◌≡◌, ◌++◌, ◌≤◌, ℕ, List, [], false, OnOk, IfOk, drop, length};
+ghost use Rattle.std.specs.Prelude.{◌≡◌, ◌++◌, ◌≤◌, ℕ, List, [], false, true, OnOk, IfOk, drop, length};
 ghost use Rattle.std.specs.List.{flat_map};
 ghost use Rattle.std.specs.Io.KnownBytes.{Appends, Consumes, IsAtEnd};
 ghost use Rattle.dl_wire.specs.declared.limits.TheConstants.{FRAME_LIMIT};
 ghost use Rattle.dl_wire.specs.Answer.{frame_text};
 ghost use Rattle.dl_serve.specs.Asked.{Chain};
+ghost use Rattle.dl_serve.specs.Left.{is_nothing, IsWritten};
 ghost use Rattle.dl_serve.specs.Serve.{welcome_frame, IsDone, IsServed, IsStopped, IsTaken, Serves};
 ghost use Rattle.dl_serve.specs.Session.{stage_of};
 
 use crate::fault::ServeFault;
 use crate::frames::{Front, LENGTH_BYTES, front_of, tag_of};
+use crate::left::Left;
 use crate::session::Session;
 use dl_disk::Disk;
 use dl_hub::Hub;
@@ -32,6 +34,14 @@ pub enum Ended {
     LongFrame,
 }
 
+/// What became of a stream that was served.
+#[derive(Clone, Copy, Debug, PartialEq, Eq)]
+pub struct Served {
+    pub ended: Ended,
+    /// What was left unwritten, after the clients had left and all was flushed.
+    pub left: Left,
+}
+
 /// Where the serving of frames stopped.
 #[derive(Clone, Copy)]
 pub enum Stop {
@@ -44,7 +54,8 @@ pub enum Stop {
 }
 
 /// Serves a hub to the program that writes frames of requests to `input` and reads frames of answers from `output`, until the
-/// input ends or a frame is too long. Then the clients leave, and what waits is written.
+/// input ends or a frame is too long. Then the clients leave, and what waits is written; if the device fails at that it is
+/// tried again a few times, and what is left after the last try is told.
 ///
 /// Requests are done in their order, whatever pieces the input comes in. Answers are written once no whole frame is left of
 /// what was read, or if they have more than a mebibyte, and nothing is read meanwhile. If the input or the output
@@ -54,16 +65,17 @@ pub fn serve<R: Read, W: Write, D: Disk + Drop, A: Allocator + Copy>(
     input: &mut R,
     output: &mut W,
     hub: &mut Hub<D, A>,
-) -> Result<Ended, ServeFault>
-    ensures { IfOk result (λ how. Serves D.state A how (R.remaining input.old) hub.old hub.new (W.contents output.old) (W.contents output.new)) }
+) -> Result<Served, ServeFault>
+    ensures written { IfOk result (λ served. is_nothing served.left ≡ true → IsWritten hub.new) }
+    ensures served { IfOk result (λ served. Serves D.state A served (R.remaining input.old) hub.old hub.new (W.contents output.old) (W.contents output.new)) }
 {
     let mut session = Session::new(alloc);
     match session.serve_input(input, output, hub) {
-        Ok(how) => {
-            session.leave(hub)?;
+        Ok(ended) => {
+            let left = session.leave(hub)?;
             session.send(output)?;
             output.flush().map_err(|_| ServeFault::Write)?;
-            Ok(how)
+            Ok(Served { ended, left })
         }
         Err(fault) => {
             session.leave(hub)?;
@@ -184,7 +196,10 @@ impl<A: Allocator + Copy> Session<A> {
                 Ok(())
             }
             Ask::Event(event) => self.ask(tag, event, hub),
-            Ask::All => self.flush_all(tag, hub),
+            Ask::All => {
+                self.flush_all(tag, hub)?;
+                Ok(())
+            }
         }
     }
 

@@ -7,7 +7,7 @@
 use anyhow::{Result, bail};
 use dl_disk::MemoryDisk;
 use dl_hub::Hub;
-use dl_serve::{Ended, serve};
+use dl_serve::{Ended, Left, serve};
 use std::io;
 
 // The blocks of 4,096 bytes in which items wait for the disk.
@@ -17,8 +17,14 @@ fn main(rt: HostRuntime) -> Result<()> {
     let mut hub = Hub::new(rt.alloc(), MemoryDisk::new(rt.alloc()), BLOCKS)?;
     let mut input = rt.reader();
     let mut output = io::writer(&rt);
-    match serve(rt.alloc(), &mut input, &mut output, &mut hub)? {
-        Ended::Input => Ok(()),
+    let served = serve(rt.alloc(), &mut input, &mut output, &mut hub)?;
+    match served.ended {
+        Ended::Input => {}
         Ended::LongFrame => bail!("a frame is too long"),
+    }
+    match served.left {
+        Left::Nothing => Ok(()),
+        Left::Unwritten(log) => bail!("{log} was not written"),
+        Left::NoMemory => bail!("out of memory"),
     }
 }

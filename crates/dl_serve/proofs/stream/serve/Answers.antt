@@ -7,10 +7,10 @@ use Rattle.dl_serve.specs.Serve.{IsServed, first_stage}
 use Rattle.dl_serve.specs.Session.{stage_of}
 use Rattle.dl_serve.proofs.stream.serve.Goals as goal
 
-pub returns-in-Ok : goal.returns-in-Ok
-returns-in-Ok g c =
+pub returns-in-Ok-clause-served : goal.returns-in-Ok-clause-served
+returns-in-Ok-clause-served g c =
     let k = c.in-Ok.ensures in
-    let l = c.in_ok-leave-in-Ok.ensures in
+    let l = c.in_ok-left-in-Ok.ensures.left in
     let told = c.serve_input.new.self.frames.items in
     let mid = stage_of c.serve_input.new.hub c.serve_input.new.self in
     let written = g.W.Write.contents c.args.output.now in
@@ -29,7 +29,7 @@ returns-in-Ok g c =
       told = told;
       farewell = l.0;
       framed = k.framed;
-      served = subst (λ (s : Stage g.row.D.Denot g.row.A.Denot). Chain (IsServed {Z = g.row.A.Denot} g.D.Disk.state) k.texts s mid k.answers) fresh k.served;
+      done = subst (λ (s : Stage g.row.D.Denot g.row.A.Denot). Chain (IsServed {Z = g.row.A.Denot} g.D.Disk.state) k.texts s mid k.answers) fresh k.served;
       ended = k.ended;
       left = l.1;
       hub = refl;
