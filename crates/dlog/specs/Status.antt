@@ -9,9 +9,16 @@ use Rattle.dl_digest.specs.declared.compare.Verdict.TheVariants.{Same, Gone, Sho
 use Rattle.dl_app.specs.declared.fault.ScriptFault.{ScriptFault}
 use Rattle.dl_app.specs.declared.fault.ScriptFault.TheVariants.{BadLine, Read, Write, OutOfMemory}
 use Rattle.dl_pipe.specs.declared.append.Stop.{Stop}
+use Rattle.dl_pipe.specs.declared.close.Closing.{Closing}
+use Rattle.dl_pipe.specs.declared.close.Closing.TheVariants as closing
 use Rattle.dl_pipe.specs.declared.dump.Gap.{Gap}
 use Rattle.dl_pipe.specs.declared.fault.PipeFault.{PipeFault}
 use Rattle.dl_pipe.specs.declared.fault.PipeFault.TheVariants as fault
+use Rattle.dl_serve.specs.declared.left.Left.{Left}
+use Rattle.dl_serve.specs.declared.left.Left.TheVariants as left
+use Rattle.dl_serve.specs.declared.stream.Ended.{Ended}
+use Rattle.dl_serve.specs.declared.stream.Ended.TheVariants as ended
+use Rattle.dl_serve.specs.declared.stream.Served.{Served}
 
 -- 2 if the script is wrong, and 1 if it could not be run on
 abbrev pub status_of : ScriptFault → ℕ
@@ -67,6 +74,28 @@ fault_status fault.OutOfMemory = 1
 abbrev pub append_status : Option Stop → ℕ
 append_status None = 0
 append_status (Some stop) = 1
+
+-- 0 if a log was closed, at once or by turns after a fault
+abbrev pub closing_status : Closing → ℕ
+closing_status closing.Closed = 0
+closing_status (closing.Finished file) = 0
+closing_status (closing.Lingers file) = 1
+closing_status (closing.Refused why) = 1
+
+-- 0 if nothing is left of what waited
+abbrev pub left_status : Left → ℕ
+left_status left.Nothing = 0
+left_status (left.Unwritten log) = 1
+left_status left.NoMemory = 1
+
+-- 0 if a stream was served to its end, and nothing is left of what waited
+abbrev pub ended_status : Ended → Left → ℕ
+ended_status ended.Input rest = left_status rest
+ended_status ended.LongFrame rest = 1
+
+-- the same of what became of it
+abbrev pub served_status : Served → ℕ
+served_status served = ended_status served.ended served.left
 
 -- 0 if items are as they were, or their file gave way to another, and 1 if they are fewer or others
 abbrev pub verdict_status : Verdict → ℕ

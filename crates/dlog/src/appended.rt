@@ -3,10 +3,11 @@ ghost use Rattle.std.specs.Prelude.{◌≡◌, IfOk, OnErr};
 ghost use Rattle.std.specs.Process.{exit_status};
 ghost use Rattle.dlog.specs.Status.{append_status};
 
+use crate::closed::{tell_finished, tell_lingering};
 use crate::faults::{Failure, Place, advise, say, tell_failure};
 use crate::noted::Why;
 use crate::{FAILED, tell};
-use dl_pipe::{Appended, PipeFault, Source, Stage, Stop};
+use dl_pipe::{Appended, Closing, PipeFault, Source, Stage, Stop};
 use std::process::ExitCode;
 
 /// What the report on an append has to know of it.
@@ -16,7 +17,7 @@ pub struct Report<'a> {
     pub source: Source,
 }
 
-/// Says what an append came to, unless all items were logged and nothing was repaired.
+/// Says what an append came to, unless all items were logged, nothing was repaired, and the device did not fail.
 pub fn end(
     rt: &HostRuntime,
     report: Report<'_>,
@@ -32,7 +33,7 @@ pub fn end(
     }
 }
 
-// Says what was repaired, and where the append stopped.
+// Says what was repaired, whether the device failed at the close, and where the append stopped.
 fn tell_appended(rt: &HostRuntime, report: Report<'_>, why: Why, appended: Appended) -> ExitCode
     ensures { exit_status result ≡ append_status appended.stopped }
 {
@@ -41,6 +42,9 @@ fn tell_appended(rt: &HostRuntime, report: Report<'_>, why: Why, appended: Appen
         let kept = cut.kept;
         let bytes = cut.bytes;
         let _ = eprintln!(rt; "dlog: {log}: repaired: {kept} items kept, {bytes} bytes cut");
+    }
+    if let Closing::Finished(file) = appended.closing {
+        tell_finished(rt, log, file);
     }
     match appended.stopped {
         Some(stop) => tell_stop(rt, report, why, stop, appended),
@@ -60,6 +64,10 @@ fn tell_stop(
 {
     let fault = stop.fault;
     let told = tell_stage(rt, report, Failure { fault, why }, stop.at, appended.items);
+    if let Closing::Lingers(_) = appended.closing {
+        let (_, many) = words_of(report.source);
+        tell_lingering(rt, many);
+    }
     tell_kept(rt, report.place, appended);
     advise(rt, report.place, fault);
     told
@@ -155,14 +163,14 @@ fn kept_of(appended: Appended) -> Kept {
     let Appended {
         items,
         synced,
-        closed,
+        closing,
         ..
     } = appended;
     if items == 0 {
         Kept::Nothing
     } else if synced == items {
         Kept::OnDevice
-    } else if closed {
+    } else if closing.is_whole() {
         Kept::InLog
     } else {
         Kept::Synced

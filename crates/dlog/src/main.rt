@@ -9,6 +9,7 @@ mod append;
 mod appended;
 mod begin;
 mod check;
+mod closed;
 mod digest;
 mod disk;
 mod dump;
