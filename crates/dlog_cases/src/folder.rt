@@ -1,10 +1,5 @@
 // A case over a folder.
-use crate::answer::bytes_of;
-use crate::case::{Step, Tool};
-use crate::fault::{CaseFault, How};
-use crate::job::Job;
-use crate::script::run_lines;
-use crate::trial::Trial;
+use dl_cases::{CaseFault, How, Job, Step, Tool, Trial, bytes_of, run_lines};
 use dl_disk::{FolderDisk, OpenFault};
 use dl_hub::Hub;
 use dl_tool::LogFiles;

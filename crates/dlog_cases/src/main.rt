@@ -1,26 +1,10 @@
 //! Runs worked cases: scripts with the answers that they are to get.
 #![tactic(auto)]
 
-mod alone;
-mod answer;
-mod case;
 mod fault;
 mod folder;
-mod fuse;
-mod job;
-mod keeps;
-mod memory;
-mod order;
-mod refuse;
-mod script;
-mod spoil;
-mod stops;
 mod suite;
-mod sweep;
 mod threads;
-mod told;
-mod tools;
-mod trial;
 
 use fault::Stop;
 use std::env;

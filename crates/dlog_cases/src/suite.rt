@@ -1,15 +1,9 @@
 // All cases of a folder, one after another.
-use crate::case::{Step, blocks_of, count_answers, has_failure, steps_of};
-use crate::fault::{CaseFault, How};
 use crate::folder::run_in_folder;
-use crate::keeps::run_keeps;
-use crate::memory::run_in_memory;
-use crate::refuse::run_refusals;
-use crate::spoil::run_spoils;
-use crate::stops::run_stops;
-use crate::sweep::run_sweeps;
 use crate::threads::run_with_threads;
-use crate::trial::Trial;
+use dl_cases::{
+    CaseFault, How, Step, Trial, blocks_of, count_answers, has_failure, run_trials, steps_of,
+};
 use std::path::{Path, PathBuf};
 use std::sync::Wait;
 use std::thread::Threads;
@@ -153,20 +147,14 @@ fn run_case<T: Threads + Wait + Clock + Sync>(
     Ok(count_answers(steps.as_slice()))
 }
 
-// Runs the steps of a case in memory, under each failure of its sweeps and of the logs that keep their items, stopped at each call, over
-// spoilt files, with each call refused memory, and in a folder if its device does not fail.
+// Runs the steps of a case in memory, in each way that they ask for, and in a folder if its device does not fail.
 fn run_steps(
     rt: &HostRuntime,
     steps: &[Step<'_>],
     room: Path<'_>,
     trial: &mut Trial,
 ) -> Result<(), CaseFault> {
-    run_in_memory(rt.alloc(), steps, trial)?;
-    run_sweeps(rt.alloc(), steps, trial)?;
-    run_keeps(rt.alloc(), steps, trial)?;
-    run_stops(rt.alloc(), steps, trial)?;
-    run_spoils(rt.alloc(), steps, trial)?;
-    run_refusals(rt.alloc(), steps, trial)?;
+    run_trials(rt.alloc(), steps, trial)?;
     if has_failure(steps) {
         return Ok(());
     }

@@ -1,11 +1,9 @@
 // The scripts of a case with a thread for each client.
-use crate::case::{BAD_LINE, Line, Step, has_failure};
-use crate::fault::{CaseFault, How};
 use crate::folder::{lay_in_folder, open_folder};
-use crate::fuse::counted;
-use crate::memory::{disk_under, live_in_memory};
-use crate::script::{lines_of, script_of};
-use crate::trial::Trial;
+use dl_cases::{
+    BAD_LINE, CaseFault, How, Line, Step, Trial, counted, disk_under, has_failure, lines_of,
+    live_in_memory, script_of,
+};
 use dl_disk::{Disk, MemoryDisk};
 use dl_threads::threads_script;
 use dl_trail::{Record, Recorded};

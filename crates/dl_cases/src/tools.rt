@@ -4,8 +4,8 @@ use crate::fault::CaseFault;
 use dl_disk::{Disk, ListFault};
 use dl_hub::Hub;
 use dl_pipe::{
-    AppendArgs, Appended, Cut, DumpArgs, Form, Gap, PipeFault, Source, Spot, Syncs, append_items,
-    dump_log, repair_log,
+    AppendArgs, Appended, Closing, Cut, DumpArgs, Form, Gap, Mended, PipeFault, Source, Spot,
+    Syncs, append_items, dump_log, repair_log,
 };
 use dl_tool::{
     LogFiles, Style, check_logs, describe_log, ends_in_zeros, find_logs, find_strays, list_logs,
@@ -232,6 +232,7 @@ fn tell_append(done: Result<Appended, PipeFault>, output: &mut Vec<u8>) -> Resul
     }
     let taken = appended.items;
     writeln!(output, "{taken} taken")?;
+    tell_closing(appended.closing, output)?;
     match appended.stopped {
         Some(stop) => tell_fault(stop.fault, output),
         None => Ok(()),
@@ -252,14 +253,27 @@ fn tell_dump(done: Result<Vec<Gap>, PipeFault>, output: &mut Vec<u8>) -> Result<
 }
 
 // Writes what a repair came to.
-fn tell_repair(
-    done: Result<Option<Cut>, PipeFault>,
-    output: &mut Vec<u8>,
-) -> Result<(), CaseFault> {
-    match done {
-        Ok(Some(cut)) => tell_cut(cut, output),
-        Ok(None) => Ok(()),
-        Err(fault) => tell_fault(fault, output),
+fn tell_repair(done: Result<Mended, PipeFault>, output: &mut Vec<u8>) -> Result<(), CaseFault> {
+    let mended = match done {
+        Ok(mended) => mended,
+        Err(fault) => return tell_fault(fault, output),
+    };
+    if let Some(cut) = mended.cut {
+        tell_cut(cut, output)?;
+    }
+    tell_closing(mended.closing, output)?;
+    match mended.closing.fault() {
+        Some(fault) => tell_fault(fault, output),
+        None => Ok(()),
+    }
+}
+
+// Writes that turns finished a log at whose close the device failed, or that the log lingers.
+fn tell_closing(closing: Closing, output: &mut Vec<u8>) -> io::Result<()> {
+    match closing {
+        Closing::Finished(file) => writeln!(output, "finished after a fault at {file}"),
+        Closing::Lingers(_) => writeln!(output, "lingers"),
+        Closing::Closed | Closing::Refused(_) => Ok(()),
     }
 }
 
