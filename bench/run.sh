@@ -1,6 +1,6 @@
 #!/bin/sh
 # Builds dlog_bench and the baseline, runs both in turn in a folder, three rounds, and prints medians and ratios.
-#   bench/run.sh DIR N
+#   bench/run.sh DIR N [T]      with T: also what T threads log
 set -eu
 
 rounds=3
@@ -10,12 +10,14 @@ die() {
     exit "$2"
 }
 
-[ $# -eq 2 ] || die "give DIR, a folder that is there and empty, and N, a number of items" 2
+[ $# -eq 2 ] || [ $# -eq 3 ] || die "give DIR, a folder that is there and empty, N, a number of items, and perhaps T, one of threads" 2
 dir=$1
 items=$2
-case $items in
-    '' | 0* | *[!0-9]*) die "N is a number from 1 on: $items" 2 ;;
-esac
+for number in "$items" "${3-1}"; do
+    case $number in
+        '' | 0* | *[!0-9]*) die "N and T are numbers from 1 on: $number" 2 ;;
+    esac
+done
 [ -d "$dir" ] || die "no folder: $dir" 1
 [ -w "$dir" ] || die "nothing may be written in $dir" 1
 for tool in rt rustc awk; do
@@ -45,9 +47,9 @@ rustc -O -o "$work/baseline" "$bench/baseline.rs" || die "the baseline could not
 for round in $(seq "$rounds"); do
     echo "bench: round $round of $rounds" >&2
     clear_files
-    "$program" "$dir" "$items" >>"$work/lines" || die "dlog_bench failed" 1
+    "$program" ${3:+"--threads=$3"} "$dir" "$items" >>"$work/lines" || die "dlog_bench failed" 1
     clear_files
-    "$work/baseline" "$dir" "$items" >>"$work/lines" || die "the baseline failed" 1
+    "$work/baseline" "$dir" "$items" ${3:+"$3"} >>"$work/lines" || die "the baseline failed" 1
 done
 
 awk '
@@ -59,11 +61,11 @@ awk '
     }
     # How many times as long one takes as the other. Rates are turned round, times are not.
     function ratio(text, slow, fast,   s, f) {
-        if (!(slow in values) || !(fast in values)) { printf "%-52s not measured\n", text; return }
+        if (!(slow in values) || !(fast in values)) { printf "%-64s not measured\n", text; return }
         s = median(slow); f = median(fast)
         if (unit[slow] != "ms") { t = s; s = f; f = t }
-        if (f + 0 == 0) printf "%-52s no figure\n", text
-        else printf "%-52s %.2f\n", text, s / f
+        if (f + 0 == 0) printf "%-64s no figure\n", text
+        else printf "%-64s %.2f\n", text, s / f
     }
     { name = $1; sub(/:$/, "", name); if (!(name in seen)) { seen[name] = 1; names[++count] = name } }
     { values[name] = values[name] " " $2; unit[name] = $3 }
@@ -86,5 +88,12 @@ awk '
         ratio("open, files of 100 kB: one file", "dlog_open_set_folder", "dlog_open_closed_folder")
         ratio("100 logs by turns: one log of dlog", "dlog_round_robin_100_folder", "dlog_append_folder")
         ratio("1,000 logs by turns: one log of dlog", "dlog_round_robin_folder", "dlog_append_folder")
+        if (!("dlog_log_core_folder" in values)) exit
+        ratio("a hub that may keep its history and does not: one that cannot", "dlog_log_off_folder", "dlog_log_core_folder")
+        ratio("a hub that keeps its history: one that does not", "dlog_log_kept_folder", "dlog_log_off_folder")
+        ratio("threads, log: one thread with a hub", "dlog_threads_log_off_folder", "dlog_log_core_folder")
+        ratio("threads, alog: log", "dlog_threads_alog_off_folder", "dlog_threads_log_off_folder")
+        ratio("threads, log: a BufWriter under a lock", "dlog_threads_log_off_folder", "baseline_threads_log_folder")
+        ratio("threads, log, history kept: not kept", "dlog_threads_log_kept_folder", "dlog_threads_log_off_folder")
     }
 ' "$work/lines"

@@ -47,9 +47,10 @@ IsShown file (Err fault.Device) text = IsRefusalText (DeviceFault file) text
 IsShown file (Err fault.OutOfMemory) text = ⊥
 
 module _ {D : Type 0} (state : D → DiskState) where
-  -- a file was read: the logs, their owners, what waits and the files stay, and what was read is what the file has
+  -- a file was read: the logs that are open, those that linger, their owners, what waits and the files stay, and what was read is what the file has
   pub record HasRead (file : FileName) (old new : HubView D) (shown : Result (Option (List ℕ)) FileFault) : Type 0 where
     pub logs : new.logs ≡ old.logs
+    pub lingering : new.lingering ≡ old.lingering
     pub cache : new.cache ≡ old.cache
     pub owners : new.owners ≡ old.owners
     pub opened : new.opened ≡ old.opened

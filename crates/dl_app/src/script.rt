@@ -107,8 +107,8 @@ impl<A: Allocator + Copy> Session<A> {
         }
     }
 
-    /// Runs the line of this number, which has no line feed, on a hub, and writes its answer. A line that is not answered
-    /// for want of memory may have been run.
+    /// Runs the line of this number, which has no line feed, on a hub, and writes its answer. It is `BadLine` of this number
+    /// if the line has no form; then nothing was done. A line whose answer was refused memory or not written may have been run.
     pub fn run_line<W: Write, D: Disk + Drop>(
         &mut self,
         number: u64,

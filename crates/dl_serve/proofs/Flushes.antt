@@ -1,5 +1,5 @@
 -- Flushes one after another.
-use Rattle.std.proofs.Common.{◌≡◌, ◌<◌, inl, inr, ℕ, suc, List, [], ◌∷◌, Bool, true, false, true≢false, ◌&&◌, nat_lt, Some, length, drop, replicate, refl, sym, ap, subst, ◌∙◌, append-nil, arith}
+use Rattle.std.proofs.Common.{◌≡◌, ◌<◌, inl, inr, ℕ, suc, List, [], ◌∷◌, Bool, true, false, true≢false, ◌&&◌, nat_lt, length, replicate, refl, sym, ap, subst, ◌∙◌, append-nil}
 use Rattle.std.specs.List.{flat_map}
 use Rattle.dl_types.specs.Notice.{Told}
 use Rattle.dl_types.specs.declared.event.Event.TheVariants as event
@@ -7,12 +7,9 @@ use Rattle.dl_types.specs.declared.reply.Outcome.{Outcome}
 use Rattle.dl_types.specs.declared.reply.Reply.TheVariants as reply
 use Rattle.dl_types.specs.declared.reply.Turn.{Turn}
 use Rattle.dl_types.specs.declared.reply.Turn.TheVariants as turn
-use Rattle.dl_cache.specs.declared.chain.Chain as cache
-use Rattle.dl_cache.specs.Entries.{Entry, oldest_of}
 use Rattle.dl_disk.specs.Disk.{DiskState}
-use Rattle.std.proofs.lemmas.Option.{none-some}
 use Rattle.dl_hub.specs.View.{HubView}
-use Rattle.dl_hub.specs.Flush.{IsTurnOf, IsTurn}
+use Rattle.dl_hub.specs.Flush.{IsTurnOf, IsTurn, turns_left}
 use Rattle.dl_hub.specs.Step.{IsStep}
 use Rattle.dl_wire.specs.declared.limits.TheConstants.{SUSPENDED_LIMIT}
 use Rattle.dl_serve.specs.Event.{has_drained, is_suspended}
@@ -20,23 +17,18 @@ use Rattle.dl_serve.specs.Asked.{Stage, Chain, IsAsked, notice_frame, outcome_fr
 use Rattle.dl_serve.specs.Serve.{IsFlushed}
 use Rattle.dl_serve.proofs.Chains.{chain_more, replicate_more}
 
--- without its first entry a cache has fewer
-shorter : (old new : List Entry) (c : cache.Chain) → oldest_of old ≡ Some c → new ≡ drop 1 old → length new < length old
-shorter [] new c none is = absurd (none-some c none)
-shorter (e ∷ es) new c some is = let len = ap length is in omega (arith, len)
-
 module _ {D : Type 0} (Z : Type 0) (state : D → DiskState) where
-  drains : (old new : HubView D) (t : Turn) → IsTurnOf state old new t → has_drained {Z = Z} (reply.Turn t) ≡ true → length new.cache.entries < length old.cache.entries
-  drains old new (turn.Drained L) is wrote = shorter old.cache.entries new.cache.entries is.0.0 is.0.1 is.1
+  drains : (old new : HubView D) (t : Turn) → IsTurnOf state old new t → has_drained {Z = Z} (reply.Turn t) ≡ true → turns_left new < turns_left old
+  drains old new (turn.Drained L) is wrote = is.0
   drains old new turn.Idle is none = absurd (true≢false (sym none))
   drains old new (turn.Fault L) is none = absurd (true≢false (sym none))
 
 module _ {D Z : Type 0} (state : D → DiskState) where
-  -- a turn that wrote a block has left one fewer
-  pub fewer : (old new : HubView D) (o : Outcome Z) → IsStep state old new event.Flush o → has_drained o.reply ≡ true → length new.cache.entries < length old.cache.entries
+  -- after a turn that drained fewer are left
+  pub fewer : (old new : HubView D) (o : Outcome Z) → IsStep state old new event.Flush o → has_drained o.reply ≡ true → turns_left new < turns_left old
   fewer old new o step wrote = by (step.turn refl)
     where
-      by : IsTurn state old new o.reply → length new.cache.entries < length old.cache.entries
+      by : IsTurn state old new o.reply → turns_left new < turns_left old
       by (inl t) = drains Z state old new t.0 t.2 (sym (ap has_drained t.1) ∙ wrote)
       by (inr want) = absurd (true≢false (sym wrote ∙ ap has_drained want.0))
 
@@ -72,7 +64,7 @@ module _ {D Z : Type 0} (state : D → DiskState) where
       let silent : outcome_frames (will_wait o old.waiting) 0 o ≡ [] = ap (λ (b : Bool). outcome_frames b 0 o) waits ∙ ap (λ (ns : List Told). flat_map notice_frame ns) ((step.turn_told refl).silent (λ L failed. true≢false (sym is ∙ ap has_drained failed))) in
       subst (λ (f : List ℕ). IsFlushed state true 0 old new f) silent (flush_asked 0 old new o step stays clients true is)
 
-  -- one more of the flushes that wrote a block
+  -- one more of the flushes that drained a log
   pub flushed_more : (n : ℕ) (old mid new : Stage D Z) → Chain (λ drained. IsFlushed state drained 0) (replicate n true) old mid [] → IsFlushed state true 0 mid new []
       → Chain (λ drained. IsFlushed state drained 0) (replicate (suc n) true) old new []
   flushed_more n old mid new chain step =

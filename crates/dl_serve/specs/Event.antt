@@ -39,7 +39,7 @@ module _ {Z : Type 0} where
   is_suspended reply.Suspended = true
   is_suspended other = false
 
-  -- the turn of a flush that wrote a block, so that more may wait
+  -- the turn of a flush that wrote a block or finished a log that lingered, so that more may be left
   abbrev pub has_drained : Reply Z → Bool
   has_drained (reply.Turn (turn.Drained log)) = true
   has_drained other = false

@@ -29,11 +29,11 @@ abbrev pub welcome_frame : ℕ → List ℕ
 welcome_frame tag = if tag == 0 then [] else frame_text (welcome_text tag VERSION FRAME_LIMIT SUSPENDED_LIMIT)
 
 module _ {D Z : Type 0} (state : D → DiskState) where
-  -- a flush whose turn wrote a block, or wrote none
+  -- a flush whose turn drained a log, or drained none
   abbrev pub IsFlushed : Bool → ℕ → Stage D Z → Stage D Z → List ℕ → Type 0
   IsFlushed drained tag old new frames = (asked : IsAsked state tag event.Flush old new frames) × (has_drained asked.outcome.reply ≡ drained)
 
-  -- flushes one after another: each of the first n wrote a block and gets no answer, and one more wrote none. With it they end, and its turn is the answer
+  -- flushes one after another: each of the first n drained a log and gets no answer, and one more drained none. With it they end, and its turn is the answer
   abbrev pub IsAllFlushed : ℕ → Stage D Z → Stage D Z → List ℕ → Type 0
   IsAllFlushed tag old new frames =
       (n : ℕ) × (mid : Stage D Z) × Chain (λ drained. IsFlushed drained 0) (replicate n true) old mid [] × IsFlushed false tag mid new frames
@@ -50,7 +50,7 @@ module _ {D Z : Type 0} (state : D → DiskState) where
       ((r : Request Z) × IsRequest r × (text ≡ request_text r) × IsDone r.tag r.ask old new frames)
       ⊎ ((place : ℕ) × (request_in {Z = Z} text ≡ Err place) × (new ≡ old) × (frames ≡ frame_text (bad_text (tag_of text) place)))
 
-  -- the end: the clients leave, after which none is known, and then all that waits is flushed
+  -- the end: the clients leave, after which none is known, and then all that waits or lingers is flushed
   abbrev pub IsLeft : Stage D Z → Stage D Z → List ℕ → Type 0
   IsLeft old new frames =
       (mid : Stage D Z) × (first : List ℕ) × (last : List ℕ) × Chain (λ client. IsAsked state 0 (event.Exit client)) old.clients (record old { clients = [] }) mid first × IsAllFlushed 0 mid new last × (frames ≡ first ++ last)

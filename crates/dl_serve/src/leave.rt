@@ -1,4 +1,4 @@
-// Blocks that are written, and clients that leave.
+// Blocks that are written, logs that are finished, and clients that leave.
 ghost use Rattle.std.specs.Prelude.{◌≡◌, ◌++◌, ℕ, List, OnOk};
 ghost use Rattle.dl_types.specs.declared.event.Event.TheVariants as event;
 ghost use Rattle.dl_serve.specs.Asked.{Chain, IsAsked};
@@ -15,7 +15,8 @@ use std::alloc::Allocator;
 use std::mem;
 
 impl<A: Allocator + Copy> Session<A> {
-    /// Writes blocks, the oldest first, until a turn writes none: nothing waits, or the device fails. That turn is the answer.
+    /// Writes blocks, the oldest first, and finishes the logs that linger, until a turn does neither: nothing is left, or the
+    /// device fails. That turn is the answer.
     pub fn flush_all<D: Disk + Drop>(
         &mut self,
         tag: u32,
@@ -47,7 +48,7 @@ impl<A: Allocator + Copy> Session<A> {
         Ok(())
     }
 
-    /// Ends what the stream began: each client leaves, and all that waits is written.
+    /// Ends what the stream began: each client leaves, and all that waits is written, also of logs that linger.
     pub fn leave<D: Disk + Drop>(&mut self, hub: &mut Hub<D, A>) -> Result<(), ServeFault>
         ensures { OnOk result ((frames : List ℕ) × IsLeft D.state (stage_of hub.old self.old) (stage_of hub.new self.new) frames × (self.new.frames.items ≡ self.old.frames.items ++ frames)) }
     {

@@ -1,11 +1,26 @@
 // What a run measures, and the lines that it prints.
 use crate::fault::Fault;
+use dl_types::{Item, Items};
+use std::alloc::Global;
 use std::fmt::Display;
 use std::fs;
 use std::time::Duration;
 
 /// The bytes of each item.
 pub const ITEM_BYTES: usize = 100;
+
+/// The item of this number: the number and a filling.
+pub fn item(alloc: Global, number: u64) -> Result<Item, Fault> {
+    let mut bytes = Vec::with_capacity(alloc, ITEM_BYTES)?;
+    bytes.extend_from_slice(&number.to_be_bytes())?;
+    bytes.resize(ITEM_BYTES, b'x')?;
+    Ok(Item::of(bytes)?)
+}
+
+/// The item of this number alone.
+pub fn one_item(alloc: Global, number: u64) -> Result<Items, Fault> {
+    Ok(Items::one(alloc, item(alloc, number)?)?)
+}
 
 /// What the words ask for, and the place, folder or memory, that the lines name.
 #[derive(Clone, Copy)]
@@ -19,6 +34,15 @@ pub struct Bench<'a> {
     pub counts: bool,
     /// The blocks of each hub's cache.
     pub blocks: u32,
+    /// The threads that log through one server.
+    pub threads: u32,
+}
+
+impl<'a> Bench<'a> {
+    /// The same with lines that name another place.
+    pub fn at(self, place: &'a str) -> Bench<'a> {
+        Bench { place, ..self }
+    }
 }
 
 impl Bench<'_> {

@@ -1,11 +1,11 @@
 // The one client of a hub, whose calls are timed.
-use crate::bench::{Bench, ITEM_BYTES};
+use crate::bench::{Bench, item};
 use crate::fault::Fault;
 use dl_disk::Disk;
 use dl_hub::Hub;
 use dl_types::{
-    Call, ClientId, Event, Fail, Item, Items, Kind, Name, OpenArgs, Place, Refusal, Reply, Run,
-    Size, Turn,
+    Call, ClientId, Event, Fail, Items, Kind, Name, OpenArgs, Place, Refusal, Reply, Run, Size,
+    Turn,
 };
 use std::time::{Duration, Instant};
 
@@ -17,8 +17,8 @@ const CHUNK_ITEMS: u64 = 1_000;
 // The calls whose events are made at a time. Making them is not timed, and few take little memory.
 const ROUND_CALLS: u64 = 64;
 
-// The client's call on a log.
-fn call(log: Name, call: Call) -> Event {
+/// The client's call on a log.
+pub fn call(log: Name, call: Call) -> Event {
     let client = CLIENT;
     Event::Call { client, log, call }
 }
@@ -108,8 +108,8 @@ impl<D: Disk + Drop> Client<'_, D> {
     }
 }
 
-// A refusal is an error here, and so is a block that was not written.
-fn check(reply: &Reply) -> Result<(), Fault> {
+/// A refusal is an error here, and so is a block that was not written.
+pub fn check(reply: &Reply) -> Result<(), Fault> {
     match reply {
         Reply::Refused(refusal) => Err(Fault::Refused(*refusal)),
         Reply::OutOfMemory => Err(Fault::Hub(Fail::OutOfMemory)),
@@ -134,10 +134,7 @@ impl Bench<'_> {
     fn event(&self, log: Name, first: u64, each: u64) -> Result<Event, Fault> {
         let mut items = Vec::new(self.rt.alloc());
         for number in first..self.items.min(first.saturating_add(each)) {
-            let mut bytes = Vec::with_capacity(self.rt.alloc(), ITEM_BYTES)?;
-            bytes.extend_from_slice(&number.to_be_bytes())?;
-            bytes.resize(ITEM_BYTES, b'x')?;
-            items.push(Item::of(bytes)?)?;
+            items.push(item(self.rt.alloc(), number)?)?;
         }
         match Items::of(items) {
             Ok(items) => Ok(call(log, Call::Log(items))),

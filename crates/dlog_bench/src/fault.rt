@@ -6,7 +6,7 @@ use thiserror::Error;
 
 #[derive(Clone, Copy, Debug, Error)]
 pub enum Fault {
-    #[error("give DIR, N from 1 to 100000000, and no other words but --counts and --blocks=B; --help says more")]
+    #[error("give DIR, N from 1 to 100000000, and no other words but --counts, --blocks=B and --threads=T with T up to 64; --help says more")]
     Misused,
     #[error("out of memory")]
     OutOfMemory(#[from(alloc)] AllocError),
@@ -18,6 +18,8 @@ pub enum Fault {
     Folder,
     #[error("{0}")]
     System(#[from] io::Error),
+    #[error("no thread could be started")]
+    Thread,
     #[error("the items are not those that were logged")]
     Items,
 }

@@ -38,8 +38,7 @@ pub fn measure_all(bench: Bench<'_>) -> Result<(), Fault> {
     let done = measure_folder(bench);
     clear(bench)?;
     done?;
-    let (place, disk) = ("memory", MemoryDisk::new(bench.rt.alloc()));
-    measure(Bench { place, ..bench }, Ok(disk))
+    measure(bench.at("memory"), Ok(MemoryDisk::new(bench.rt.alloc())))
 }
 
 // How many logs there are: the first for one item a call, the second for many, and the others to be written in turn.
@@ -47,8 +46,8 @@ fn count_logs(bench: Bench<'_>) -> u64 {
     bench.items.min(MOST_LOGS).saturating_add(2)
 }
 
-// The name of the log of this number.
-fn name(bench: Bench<'_>, number: u64) -> Result<Name, Fault> {
+/// The name of the log of this number.
+pub fn name(bench: Bench<'_>, number: u64) -> Result<Name, Fault> {
     let text = format!(in bench.rt.alloc(); "bench_{number}")?;
     named(text.as_str())
 }
@@ -71,8 +70,8 @@ fn path(bench: Bench<'_>, number: u64) -> Result<String, Fault> {
     Ok(format!(in bench.rt.alloc(); "{}/bench_{number}.log", bench.folder)?)
 }
 
-// Removes the files of the logs from the folder, and nothing else.
-fn clear(bench: Bench<'_>) -> Result<(), Fault> {
+/// Removes the files of the logs from the folder, and nothing else.
+pub fn clear(bench: Bench<'_>) -> Result<(), Fault> {
     for number in 0..count_logs(bench) {
         let _there = remove(bench, path(bench, number)?.as_str())?;
     }
@@ -119,8 +118,8 @@ fn tear(bench: Bench<'_>) -> Result<(), Fault> {
     Ok(file.write_all(&TORN)?)
 }
 
-// The disk over the folder.
-fn disk(bench: Bench<'_>) -> Result<FolderDisk<HostRuntime>, Fault> {
+/// The disk over the folder.
+pub fn disk(bench: Bench<'_>) -> Result<FolderDisk<HostRuntime>, Fault> {
     FolderDisk::open(bench.rt.clone()?, bench.folder).map_err(|_| Fault::Folder)
 }
 

@@ -3,6 +3,7 @@ use crate::alone::{Deed, deed_of, opened_base};
 use crate::case::{Failure, Keep, Line, Step};
 use crate::fault::{CaseFault, How};
 use crate::memory::{MemoryHub, hub_over};
+use crate::order::may_be_repeated;
 use crate::script::{lines_of, script_of, tell};
 use crate::sweep::items::{
     OPENED, answers_of, is_done, is_refused_by_fault, is_repaired, item_text, items_of, probe_of,
@@ -94,14 +95,9 @@ fn opens_at(step: Step<'_>, base: Base) -> bool {
     opened_base(step).is_some_and(|opened| opened.as_bytes() == base.as_bytes())
 }
 
-// Whether a step may stand in such a case: it has one hub whose device does not fail, begins with no files, and has no command and no bad
-// line.
+// Whether a step may stand in such a case, which begins with no files.
 fn may_stand(step: Step<'_>) -> bool {
-    match step {
-        Step::Blocks(_) | Step::Sweep(_) | Step::Stops(_) | Step::Keep(_) | Step::Refuse(_) => true,
-        Step::Line(line) => !matches!(deed_of(line), Deed::BadLine),
-        _ => false,
-    }
+    may_be_repeated(step) && !matches!(step, Step::File(_))
 }
 
 // Lets the first call fail, then the second and so on, up to the last that the lines make if none fails.

@@ -1,4 +1,5 @@
 // What a case asks of the runner.
+use crate::alone::{Deed, deed_of};
 use crate::case::{Failure, Keep, LaidFile, LateFailure, Spoil, Step, Sweep, Tool};
 use dl_disk::Fuse;
 use dl_types::{Base, FileName};
@@ -85,23 +86,28 @@ fn fuse_of(word: &str) -> Option<Fuse> {
 
 /// Whether a step comes after a line of its hub, although it has to come before all of them.
 pub fn is_late(steps: &[Step<'_>], step: Step<'_>) -> bool {
+    if is_of_the_case(step) {
+        return steps.iter().any(|step| !is_setting(*step));
+    }
+    if !is_setting(step) {
+        return false;
+    }
+    let begun = steps.iter().rev().find(|step| !is_setting(**step));
+    begun.is_some_and(|step| !matches!(step, Step::Again))
+}
+
+/// Whether a step may stand in a case that is run again and again: it has one hub whose device does not fail, no command and
+/// no bad line.
+pub fn may_be_repeated(step: Step<'_>) -> bool {
     match step {
-        Step::Blocks(_)
-        | Step::Sweep(_)
-        | Step::Stops(_)
-        | Step::Spoil(_)
-        | Step::Keep(_)
-        | Step::Refuse(_) => steps.iter().any(|step| !is_setting(*step)),
-        Step::File(_) | Step::Fail(_) | Step::FailAfter(_) => {
-            let begun = steps.iter().rev().find(|step| !is_setting(**step));
-            begun.is_some_and(|step| !matches!(step, Step::Again))
-        }
-        _ => false,
+        Step::File(_) => true,
+        Step::Line(line) => !matches!(deed_of(line), Deed::BadLine),
+        other => is_of_the_case(other),
     }
 }
 
-// Whether a step says how a hub begins.
-fn is_setting(step: Step<'_>) -> bool {
+// Whether a step says how the whole case is run.
+fn is_of_the_case(step: Step<'_>) -> bool {
     matches!(
         step,
         Step::Blocks(_)
@@ -110,8 +116,10 @@ fn is_setting(step: Step<'_>) -> bool {
             | Step::Spoil(_)
             | Step::Keep(_)
             | Step::Refuse(_)
-            | Step::File(_)
-            | Step::Fail(_)
-            | Step::FailAfter(_)
     )
+}
+
+// Whether a step says how a hub begins.
+fn is_setting(step: Step<'_>) -> bool {
+    is_of_the_case(step) || matches!(step, Step::File(_) | Step::Fail(_) | Step::FailAfter(_))
 }

@@ -1,8 +1,8 @@
 // A case each of whose calls is refused memory until there is enough.
-use crate::alone::{Deed, deed_of};
 use crate::case::{Line, Step};
 use crate::fault::{CaseFault, How};
 use crate::memory::laid_files;
+use crate::order::may_be_repeated;
 use crate::script::{compare_one, lines_of};
 use crate::trial::Trial;
 use dl_app::{ScriptFault, Session};
@@ -49,7 +49,7 @@ fn refuse_each(
     number: u64,
     trial: &mut Trial,
 ) -> Result<(), CaseFault> {
-    if !steps.iter().all(|step| may_stand(*step)) {
+    if !steps.iter().all(|step| may_be_repeated(*step)) {
         return Err(CaseFault::BadOrder(number));
     }
     let heap = LocalHeap::new(alloc, HEAP_BYTES)?;
@@ -59,20 +59,6 @@ fn refuse_each(
     refuse_on(alloc, &heap, &other, files, lines.as_slice(), trial)?
         .then_some(())
         .ok_or(CaseFault::NoRefusal(number))
-}
-
-// Whether a step may stand in such a case: it has one hub whose device does not fail, and has no command and no bad line.
-fn may_stand(step: Step<'_>) -> bool {
-    match step {
-        Step::Blocks(_)
-        | Step::Sweep(_)
-        | Step::Stops(_)
-        | Step::Keep(_)
-        | Step::Refuse(_)
-        | Step::File(_) => true,
-        Step::Line(line) => !matches!(deed_of(line), Deed::BadLine),
-        _ => false,
-    }
 }
 
 // Runs lines on a hub in a heap, whose script is read in the other one. Returns whether one was refused memory.

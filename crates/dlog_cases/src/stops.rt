@@ -8,6 +8,7 @@ use crate::alone::{Deed, deed_of};
 use crate::case::{Line, Step};
 use crate::fault::{CaseFault, How};
 use crate::memory::{MemoryHub, hub_over, laid_files};
+use crate::order::may_be_repeated;
 use crate::script::{lines_of, script_of};
 use crate::sweep::items::verb_of;
 use crate::sweep::run::{answers_to, run_over};
@@ -43,25 +44,11 @@ pub fn run_stops(alloc: Global, steps: &[Step<'_>], trial: &mut Trial) -> Result
     let Some(number) = asked else {
         return Ok(());
     };
-    if !steps.iter().all(|step| may_be_stopped(*step)) {
+    if !steps.iter().all(|step| may_be_repeated(*step)) {
         return Err(CaseFault::BadOrder(number));
     }
     let plan = plan_of(alloc, steps, number, trial)?;
     stop_each(&plan, trial)
-}
-
-// Whether a step may stand in a case that is stopped: it has one hub whose device does not fail, no command and no bad line.
-fn may_be_stopped(step: Step<'_>) -> bool {
-    match step {
-        Step::Blocks(_)
-        | Step::Stops(_)
-        | Step::Sweep(_)
-        | Step::Keep(_)
-        | Step::Refuse(_)
-        | Step::File(_) => true,
-        Step::Line(line) => !matches!(deed_of(line), Deed::BadLine),
-        _ => false,
-    }
 }
 
 // What a case stops.

@@ -12,6 +12,7 @@ use crate::alone::{Deed, deed_of};
 use crate::case::{Failure, Line, Step, Sweep};
 use crate::fault::{CaseFault, How};
 use crate::memory::laid_files;
+use crate::order::may_be_repeated;
 use crate::trial::Trial;
 use dl_disk::Fuse;
 use std::alloc::Global;
@@ -86,22 +87,16 @@ pub fn opened_log(line: Line<'_>) -> Option<&str> {
 
 // Whether a step may stand in a case about this log that is swept.
 fn may_be_swept(step: Step<'_>, log: &str) -> bool {
-    match step {
-        Step::Blocks(_)
-        | Step::File(_)
-        | Step::Sweep(_)
-        | Step::Stops(_)
-        | Step::Keep(_)
-        | Step::Refuse(_) => true,
-        Step::Line(line) => match deed_of(line) {
-            Deed::Call {
-                client,
-                log: called,
-            } => { called == log && (client == "1" || verb_of(line.text) != Some("open")) }
-            Deed::Exit { .. } | Deed::Other => true,
-            Deed::BadLine => false,
-        },
-        _ => false,
+    let Step::Line(line) = step else {
+        return may_be_repeated(step);
+    };
+    match deed_of(line) {
+        Deed::Call {
+            client,
+            log: called,
+        } => called == log && (client == "1" || verb_of(line.text) != Some("open")),
+        Deed::Exit { .. } | Deed::Other => true,
+        Deed::BadLine => false,
     }
 }
 

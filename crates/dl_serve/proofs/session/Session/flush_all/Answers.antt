@@ -1,4 +1,4 @@
--- Each turn that wrote a block is one more, and the first that wrote none is the last.
+-- Each turn that drained a log is one more, and the first that drained none is the last.
 use Rattle.std.proofs.Common.{◌≡◌, ◌++◌, ℕ, suc, List, false, true, refl, ap, ◌∙◌, rules}
 use Rattle.dl_serve.specs.Event.{has_drained}
 use Rattle.dl_serve.specs.Asked.{outcome_frames, will_wait}

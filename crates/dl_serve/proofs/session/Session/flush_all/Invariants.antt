@@ -1,4 +1,5 @@
-use Rattle.std.proofs.Common.{◌≡◌, ℕ, [], Bool, true, length, replicate}
+use Rattle.std.proofs.Common.{◌≡◌, ℕ, [], Bool, true, replicate}
+use Rattle.dl_hub.specs.Flush.{turns_left}
 use Rattle.dl_serve.specs.Asked.{Chain}
 use Rattle.dl_serve.specs.Serve.{IsFlushed}
 use Rattle.dl_serve.specs.Session.{stage_of}
@@ -10,4 +11,4 @@ invariant-loop-self g l =
     × (l.self.frames.items ≡ l.fn.self.frames.items)
 
 abbrev pub decreases-loop-self : goal.decreases-loop-self
-decreases-loop-self g l = length l.hub.cache.entries
+decreases-loop-self g l = turns_left l.hub
