@@ -10,7 +10,7 @@ use Rattle.dl_types.specs.declared.reply.Turn.{Turn}
 use Rattle.dl_types.specs.declared.reply.Turn.TheVariants.{Drained, Idle, Fault}
 use Rattle.dl_types.specs.Name.{name_text}
 use Rattle.dl_types.specs.Printed.{characters_of, refusal_text}
-pub use Rattle.dl_app.specs.Hex.{hex}
+use Rattle.dl_lines.specs.Digits.{hex}
 use Rattle.dl_app.specs.InfoText.{info_text}
 
 -- an item after a space: each byte in two digits, or `-` if it is empty

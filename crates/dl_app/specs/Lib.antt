@@ -3,7 +3,6 @@ pub mod Options
 pub mod Settings
 pub mod Items
 pub mod Command
-pub mod Hex
 pub mod InfoText
 pub mod Answers
 pub mod Notices

@@ -20,10 +20,11 @@ use Rattle.dl_hub.specs.declared.fault.FileFault.{FileFault}
 use Rattle.dl_hub.specs.declared.fault.FileFault.TheVariants as fault
 use Rattle.dl_hub.specs.View.{HubView}
 use Rattle.dl_hub.specs.Run.{IsRun}
+use Rattle.dl_lines.specs.Digits.{hex}
 use Rattle.dl_app.specs.declared.command.Command.{Command}
 use Rattle.dl_app.specs.declared.command.Command.TheVariants as command
 use Rattle.dl_app.specs.declared.script.TheConstants.{LINE_LIMIT, LINES_LIMIT}
-use Rattle.dl_app.specs.Answers.{hex, IsLineOf, IsRefusalText}
+use Rattle.dl_app.specs.Answers.{IsLineOf, IsRefusalText}
 use Rattle.dl_app.specs.Notices.{IsOutcomeText}
 use Rattle.dl_app.specs.Command.{IsForm, call_in, refusal_in}
 use Rattle.dl_app.specs.Lines.{is_passed_over}

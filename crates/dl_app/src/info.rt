@@ -6,8 +6,8 @@ ghost use Rattle.dl_app.specs.InfoText.{names_text, form_text, info_text, next_o
 ghost use Rattle.dl_app.specs.Command.{kind_word};
 ghost use Rattle.dl_app.specs.Options.{mode_word};
 
-use crate::answer::push_hex;
 use crate::fault::ScriptFault;
+use dl_lines::push_hex;
 use dl_types::{Base, Extent, Info, Item, Kind, Mode, Name, Overflows, Owner, Size, Writing};
 use std::alloc::Allocator;
 use std::io::Write;

@@ -4,7 +4,7 @@ use Rattle.std.specs.Slice.Iter.{chunks_rest}
 use Rattle.std.specs.Io.KnownBytes.{Appends}
 use Rattle.std.proofs.KnownBytes.{Appends-trans}
 use Rattle.std.proofs.lemmas.List.Concat.{flat_map-append}
-use Rattle.dl_app.specs.Answers.{hex}
+use Rattle.dl_lines.specs.Digits.{hex}
 use Rattle.dl_app.proofs.script.show_bytes.Goals as goal
 
 pub loop-part-preserved : goal.loop-part-preserved

@@ -3,7 +3,7 @@ use Rattle.std.proofs.Common.{◌≡◌, ◌++◌, ℕ, List}
 use Rattle.std.specs.List.{flat_map}
 use Rattle.std.specs.Slice.Iter.{chunks_rest}
 use Rattle.std.specs.Io.KnownBytes.{Appends}
-use Rattle.dl_app.specs.Answers.{hex}
+use Rattle.dl_lines.specs.Digits.{hex}
 use Rattle.dl_app.proofs.script.show_bytes.Given as goal
 
 abbrev pub invariant-loop-part : goal.invariant-loop-part

@@ -3,7 +3,8 @@ use Rattle.std.specs.List.{flat_map}
 use Rattle.std.specs.Prelude.{option_map}
 use Rattle.std.specs.Io.KnownBytes.{Appends}
 use Rattle.dl_hub.specs.declared.fault.FileFault.TheVariants.{Device}
-use Rattle.dl_app.specs.Answers.{hex, IsLineOf}
+use Rattle.dl_lines.specs.Digits.{hex}
+use Rattle.dl_app.specs.Answers.{IsLineOf}
 use Rattle.dl_app.specs.Script.{HasRead, IsShown, ShowsFile}
 use Rattle.dl_app.proofs.Scripts.{answered}
 use Rattle.dl_app.proofs.script.show_file.Goals as goal
