@@ -3,7 +3,7 @@ use Rattle.std.specs.Prelude.{◌≡◌, ℕ, List, [], ◌∷◌, ◌++◌, Opt
 use Rattle.std.specs.Fmt.{decimal}
 use Rattle.dl_types.specs.declared.size.Size.{Size}
 use Rattle.dl_types.specs.Name.{base_text}
-use Rattle.dl_types.specs.Printed.{characters_of, printed_file, size_text}
+use Rattle.dl_types.specs.Printed.{characters_of, printed_file, refusal_text, size_text}
 use Rattle.dl_tool.specs.declared.finding.Amount.{Amount}
 use Rattle.dl_tool.specs.declared.finding.Finding.{Finding}
 use Rattle.dl_tool.specs.declared.finding.Finding.TheVariants.{Absent, Clean, Torn, Refused, Unread}
@@ -40,12 +40,12 @@ keeps_text kept = codes "needs repair: " ++ decimal kept ++ codes " items kept, 
 abbrev pub repair_text : ℕ → ℕ → List ℕ
 repair_text kept cut = keeps_text kept ++ cut_text cut
 
--- the lines of what was found, after those of the log; nothing is said of the text of a refusal
+-- the lines of what was found, after those of the log
 abbrev pub IsStateText : Finding → List ℕ → Type 0
 IsStateText Absent text = text ≡ state_field (codes "no such log")
 IsStateText (Clean a) text = text ≡ amount_fields a ++ state_field (whole_word a.bad)
 IsStateText (Torn a file kept cut) text = text ≡ amount_fields a ++ state_field (repair_text kept cut)
-IsStateText (Refused refusal) text = (why : List ℕ) × (text ≡ state_field (codes "refused: " ++ why))
+IsStateText (Refused refusal) text = text ≡ state_field (codes "refused: " ++ refusal_text refusal)
 IsStateText (Unread file) text = text ≡ state_field (codes "cannot read " ++ printed_file file)
 
 -- the lines of what was found of a log

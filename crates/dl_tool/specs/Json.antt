@@ -3,7 +3,7 @@ use Rattle.std.specs.Prelude.{◌≡◌, ℕ, List, [], ◌∷◌, ◌++◌, Opt
 use Rattle.std.specs.Fmt.{decimal}
 use Rattle.dl_types.specs.declared.size.Size.{Size}
 use Rattle.dl_types.specs.Name.{base_text}
-use Rattle.dl_types.specs.Printed.{characters_of, printed_file, size_text}
+use Rattle.dl_types.specs.Printed.{characters_of, printed_file, refusal_text, size_text}
 use Rattle.dl_tool.specs.declared.finding.Amount.{Amount}
 use Rattle.dl_tool.specs.declared.finding.Finding.{Finding}
 use Rattle.dl_tool.specs.declared.finding.Finding.TheVariants.{Absent, Clean, Torn, Refused, Unread}
@@ -39,12 +39,12 @@ json_repair kept cut = codes ",\"kept\":" ++ decimal kept ++ codes ",\"cut\":" +
 abbrev pub json_field : List ℕ → List ℕ → List ℕ
 json_field key text = codes ",\"" ++ key ++ codes "\":\"" ++ text ++ codes "\""
 
--- the fields of what was found, after those of the log; nothing is said of the text of a refusal
+-- the fields of what was found, after those of the log
 abbrev pub IsJsonText : Finding → List ℕ → Type 0
 IsJsonText Absent text = text ≡ json_state (codes "no such log")
 IsJsonText (Clean a) text = text ≡ json_amount (whole_word a.bad) a
 IsJsonText (Torn a file kept cut) text = text ≡ json_amount (codes "needs repair") a ++ json_repair kept cut
-IsJsonText (Refused refusal) text = (why : List ℕ) × (text ≡ json_state (codes "refused") ++ json_field (codes "why") why)
+IsJsonText (Refused refusal) text = text ≡ json_state (codes "refused") ++ json_field (codes "why") (refusal_text refusal)
 IsJsonText (Unread file) text = text ≡ json_state (codes "unread") ++ json_field (codes "file") (printed_file file)
 
 -- the end of an object, and of its line

@@ -3,7 +3,7 @@ ghost use Rattle.std.specs.Prelude.{◌≡◌, ◌++◌, List, ℕ, IsTrue, IfOk
 ghost use Rattle.std.specs.Io.KnownBytes.{Appends};
 ghost use Rattle.std.specs.Fmt.{decimal};
 ghost use Rattle.dl_types.specs.Name.{base_text};
-ghost use Rattle.dl_types.specs.Printed.{characters_of, printed_file};
+ghost use Rattle.dl_types.specs.Printed.{characters_of, printed_file, refusal_text};
 ghost use Rattle.dl_tool.specs.About.{field, log_fields, size_field, count_fields, amount_fields, state_field, keeps_text, repair_text, IsStateText, IsInfo};
 ghost use Rattle.dl_tool.specs.Line.{kind_word};
 ghost use Rattle.dl_tool.specs.Report.{FindsLog};
@@ -37,7 +37,7 @@ pub fn describe_log<D: Disk, W: Write, A: Allocator + Copy>(
 }
 
 // Adds the lines of what was found of a log.
-fn push_info<A: Allocator + Copy>(
+fn push_info<A: Allocator>(
     text: &mut Vec<u8, A>,
     log: LogFiles,
     found: Finding,
@@ -72,7 +72,7 @@ fn push_kind<A: Allocator>(text: &mut Vec<u8, A>, kind: Kind) -> Result<(), Allo
 }
 
 // Adds the lines of what was found.
-fn push_found<A: Allocator + Copy>(text: &mut Vec<u8, A>, found: Finding) -> Result<(), AllocError>
+fn push_found<A: Allocator>(text: &mut Vec<u8, A>, found: Finding) -> Result<(), AllocError>
     ensures { OnOk result ((said : List ℕ) × IsStateText found said × (text.new.items ≡ text.old.items ++ said)) }
 {
     match found {
@@ -170,17 +170,10 @@ fn push_kept<A: Allocator>(text: &mut Vec<u8, A>, kept: u64) -> Result<(), Alloc
 }
 
 // Adds the line of why an open is refused.
-fn push_refused<A: Allocator + Copy>(
-    text: &mut Vec<u8, A>,
-    refusal: Refusal,
-) -> Result<(), AllocError>
-    ensures { OnOk result ((why : List ℕ) × (text.new.items ≡ text.old.items ++ state_field (codes "refused: " ++ why))) }
+fn push_refused<A: Allocator>(text: &mut Vec<u8, A>, refusal: Refusal) -> Result<(), AllocError>
+    ensures { OnOk result (text.new.items ≡ text.old.items ++ state_field (codes "refused: " ++ refusal_text refusal)) }
 {
-    let mut why = Vec::new(*text.allocator());
-    write!(why, "{refusal}").map_err(|_| AllocError)?;
-    push_bytes(text, b"state: refused: ")?;
-    push_bytes(text, why.as_slice())?;
-    push_bytes(text, b"\n")
+    write!(text, "state: refused: {refusal}\n").map_err(|_| AllocError)
 }
 
 // Adds the line of the file at which the device failed.

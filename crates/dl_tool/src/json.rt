@@ -1,6 +1,6 @@
 // What is found of a log, as a JSON object.
 ghost use Rattle.std.specs.Prelude.{◌≡◌, ◌++◌, List, ℕ, OnOk, codes};
-ghost use Rattle.dl_types.specs.Printed.{printed_file};
+ghost use Rattle.dl_types.specs.Printed.{printed_file, refusal_text};
 ghost use Rattle.dl_tool.specs.Json.{json_log, json_size, json_state, json_counts, json_amount, json_repair, json_field, json_end, IsJsonText, IsJson};
 
 use crate::finding::{Amount, Finding};
@@ -11,7 +11,7 @@ use std::io::Write;
 
 /// Adds the object of what was found of a log, on a line of its own. Nothing is escaped: no name of a file and no
 /// refusal has a quote, a backslash or a control character.
-pub fn push_json<A: Allocator + Copy>(
+pub fn push_json<A: Allocator>(
     text: &mut Vec<u8, A>,
     log: LogFiles,
     found: Finding,
@@ -40,7 +40,7 @@ fn push_log<A: Allocator>(text: &mut Vec<u8, A>, log: LogFiles) -> Result<(), Al
 }
 
 // Adds what was found.
-fn push_found<A: Allocator + Copy>(text: &mut Vec<u8, A>, found: Finding) -> Result<(), AllocError>
+fn push_found<A: Allocator>(text: &mut Vec<u8, A>, found: Finding) -> Result<(), AllocError>
     ensures { OnOk result ((said : List ℕ) × IsJsonText found said × (text.new.items ≡ text.old.items ++ said)) }
 {
     match found {
@@ -126,25 +126,11 @@ fn push_repair<A: Allocator>(text: &mut Vec<u8, A>, kept: u64, cut: u64) -> Resu
 }
 
 // Adds why an open is refused.
-fn push_refused<A: Allocator + Copy>(
-    text: &mut Vec<u8, A>,
-    refusal: Refusal,
-) -> Result<(), AllocError>
-    ensures { OnOk result ((why : List ℕ) × (text.new.items ≡ text.old.items ++ (json_state (codes "refused") ++ json_field (codes "why") why))) }
+fn push_refused<A: Allocator>(text: &mut Vec<u8, A>, refusal: Refusal) -> Result<(), AllocError>
+    ensures { OnOk result (text.new.items ≡ text.old.items ++ (json_state (codes "refused") ++ json_field (codes "why") (refusal_text refusal))) }
 {
-    let mut why = Vec::new(*text.allocator());
-    write!(why, "{refusal}").map_err(|_| AllocError)?;
     push_state(text, "refused")?;
-    push_why(text, why.as_slice())
-}
-
-// Adds a refusal.
-fn push_why<A: Allocator>(text: &mut Vec<u8, A>, why: &[u8]) -> Result<(), AllocError>
-    ensures { OnOk result (text.new.items ≡ text.old.items ++ json_field (codes "why") why.now) }
-{
-    push_bytes(text, b",\"why\":\"")?;
-    push_bytes(text, why)?;
-    push_bytes(text, b"\"")
+    write!(text, ",\"why\":\"{refusal}\"").map_err(|_| AllocError)
 }
 
 // Adds at which file the device failed.
