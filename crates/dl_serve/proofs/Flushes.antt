@@ -1,33 +1,29 @@
 -- Flushes one after another.
-use Rattle.std.proofs.Common.{◌≡◌, ◌<◌, inl, inr, ℕ, suc, List, [], None, Bool, true, false, true≢false, ◌&&◌, nat_lt, length, replicate, refl, sym, ap, subst, ◌∙◌, append-nil}
+use Rattle.std.proofs.Common.{◌≡◌, inl, inr, ℕ, suc, List, [], Bool, true, false, true≢false, ◌&&◌, nat_lt, length, replicate, refl, sym, ap, subst, ◌∙◌, append-nil}
 use Rattle.std.specs.List.{flat_map}
 use Rattle.dl_types.specs.Notice.{Told}
 use Rattle.dl_types.specs.declared.event.Event.TheVariants as event
-use Rattle.dl_types.specs.declared.name.Name.{Name}
 use Rattle.dl_types.specs.declared.reply.Outcome.{Outcome}
 use Rattle.dl_types.specs.declared.reply.Reply.TheVariants as reply
 use Rattle.dl_types.specs.declared.reply.Turn.{Turn}
 use Rattle.dl_types.specs.declared.reply.Turn.TheVariants as turn
 use Rattle.dl_disk.specs.Disk.{DiskState}
-use Rattle.dl_hub.specs.View.{HubView, log_at}
-use Rattle.dl_hub.specs.Flush.{IsTurnOf, IsTurn, turns_left}
+use Rattle.dl_hub.specs.View.{HubView}
+use Rattle.dl_hub.specs.Flush.{IsTurnOf, IsTurn}
 use Rattle.dl_hub.specs.Step.{IsStep}
+use Rattle.dl_hub.specs.Written.{has_drained, IsWritten}
+use Rattle.dl_hub.proofs.Written.{all_written}
 use Rattle.dl_wire.specs.declared.limits.TheConstants.{SUSPENDED_LIMIT}
 use Rattle.dl_serve.specs.declared.left.Left.{Left}
-use Rattle.dl_serve.specs.Event.{has_drained, is_suspended}
+use Rattle.dl_serve.specs.Event.{is_suspended}
 use Rattle.dl_serve.specs.Asked.{Stage, Chain, IsAsked, notice_frame, outcome_frames, will_wait, with_waiting}
-use Rattle.dl_serve.specs.Left.{is_nothing, left_of, IsWritten}
+use Rattle.dl_serve.specs.Left.{is_nothing, left_of}
 use Rattle.dl_serve.specs.Serve.{IsFlushed, IsLastFlushed}
 use Rattle.dl_serve.proofs.Chains.{chain_more, replicate_more}
 
 module _ {D : Type 0} (Z : Type 0) (state : D → DiskState) where
-  drains : (old new : HubView D) (t : Turn) → IsTurnOf state old new t → has_drained {Z = Z} (reply.Turn t) ≡ true → turns_left new < turns_left old
-  drains old new (turn.Drained L) is wrote = is.0
-  drains old new turn.Idle is none = absurd (true≢false (sym none))
-  drains old new (turn.Fault L) is none = absurd (true≢false (sym none))
-
   idle : (old new : HubView D) (t : Turn) → IsTurnOf state old new t → is_nothing (left_of {Z = Z} (reply.Turn t)) ≡ true → IsWritten new
-  idle old new turn.Idle is found = (ap (λ (hub : HubView D). hub.cache.entries) is.2 ∙ is.0, subst (λ (hub : HubView D). (L : Name) → log_at hub.lingering L ≡ None) (sym is.2) is.1)
+  idle old new turn.Idle is found = all_written state old new is
   idle old new (turn.Drained L) is none = absurd (true≢false (sym none))
   idle old new (turn.Fault L) is none = absurd (true≢false (sym none))
 
@@ -39,14 +35,6 @@ module _ {D Z : Type 0} (state : D → DiskState) where
       by : IsTurn state old new o.reply → IsWritten new
       by (inl t) = idle Z state old new t.0 t.2 (sym (ap (λ r. is_nothing (left_of r)) t.1) ∙ found)
       by (inr want) = absurd (true≢false (sym found ∙ ap (λ r. is_nothing (left_of r)) want.0))
-
-  -- after a turn that drained fewer are left
-  pub fewer : (old new : HubView D) (o : Outcome Z) → IsStep state old new event.Flush o → has_drained o.reply ≡ true → turns_left new < turns_left old
-  fewer old new o step wrote = by (step.turn refl)
-    where
-      by : IsTurn state old new o.reply → turns_left new < turns_left old
-      by (inl t) = drains Z state old new t.0 t.2 (sym (ap has_drained t.1) ∙ wrote)
-      by (inr want) = absurd (true≢false (sym wrote ∙ ap has_drained want.0))
 
   -- no block suspends a flush
   goes_on : (old new : HubView D) (o : Outcome Z) → IsStep state old new event.Flush o → is_suspended o.reply ≡ false

@@ -2,7 +2,7 @@
 use Rattle.std.proofs.Common.{◌≡◌, ◌≤◌, ◌+◌, ℕ, List, [], ◌∷◌, ◌++◌, All, false, Result, Ok, Err, IfOk, length, length-append, refl, arith}
 use Rattle.std.proofs.lemmas.List.Elements.{All-append, All-cons, All-nil}
 use Rattle.dl_disk.specs.Disk.{DiskState}
-use Rattle.dl_serve.specs.declared.leave.TheConstants.{TRIES}
+use Rattle.dl_hub.specs.declared.drained.TheConstants.{TRIES}
 use Rattle.dl_serve.specs.declared.left.Left.{Left}
 use Rattle.dl_serve.specs.Asked.{Stage, Chain}
 use Rattle.dl_serve.specs.Left.{is_nothing}

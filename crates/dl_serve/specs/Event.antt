@@ -7,7 +7,6 @@ use Rattle.dl_types.specs.declared.event.Event.TheVariants as event
 use Rattle.dl_types.specs.declared.name.ClientId.{ClientId}
 use Rattle.dl_types.specs.declared.reply.Reply.{Reply}
 use Rattle.dl_types.specs.declared.reply.Reply.TheVariants as reply
-use Rattle.dl_types.specs.declared.reply.Turn.TheVariants as turn
 use Rattle.dl_types.specs.Name.{is_among}
 
 module _ {Z : Type 0} where
@@ -38,11 +37,6 @@ module _ {Z : Type 0} where
   abbrev pub is_suspended : Reply Z → Bool
   is_suspended reply.Suspended = true
   is_suspended other = false
-
-  -- the turn of a flush that wrote a block or finished a log that lingered, so that more may be left
-  abbrev pub has_drained : Reply Z → Bool
-  has_drained (reply.Turn (turn.Drained log)) = true
-  has_drained other = false
 
 -- clients, with one more if it is not among them
 abbrev pub with_client : Option ClientId → List ClientId → List ClientId

@@ -1,10 +1,8 @@
 -- What is left of what waited, after flushes.
-use Rattle.std.specs.Prelude.{◌≡◌, [], Bool, true, false, None}
-use Rattle.dl_types.specs.declared.name.Name.{Name}
+use Rattle.std.specs.Prelude.{Bool, true, false}
 use Rattle.dl_types.specs.declared.reply.Reply.{Reply}
 use Rattle.dl_types.specs.declared.reply.Reply.TheVariants as reply
 use Rattle.dl_types.specs.declared.reply.Turn.TheVariants as turn
-use Rattle.dl_hub.specs.View.{HubView, log_at}
 use Rattle.dl_serve.specs.declared.left.Left.{Left}
 use Rattle.dl_serve.specs.declared.left.Left.TheVariants.{Nothing, Unwritten, NoMemory}
 
@@ -19,7 +17,3 @@ abbrev pub left_of : {Z : Type 0} → Reply Z → Left
 left_of (reply.Turn turn.Idle) = Nothing
 left_of (reply.Turn (turn.Fault log)) = Unwritten log
 left_of other = NoMemory
-
--- nothing waits for the device, and no log lingers
-abbrev pub IsWritten : {D : Type 0} → HubView D → Type 0
-IsWritten hub = (hub.cache.entries ≡ []) × ((L : Name) → log_at hub.lingering L ≡ None)

@@ -3,7 +3,9 @@ use Rattle.std.specs.Prelude.{◌≡◌, ◌==◌, ◌⊎◌, ◌<◌, ◌+◌, 
 use Rattle.std.specs.Io.KnownBytes.{Appends}
 use Rattle.dl_types.specs.declared.event.Event.TheVariants as event
 use Rattle.dl_disk.specs.Disk.{DiskState}
+use Rattle.dl_hub.specs.declared.drained.TheConstants.{TRIES}
 use Rattle.dl_hub.specs.View.{HubView}
+use Rattle.dl_hub.specs.Written.{has_drained}
 use Rattle.dl_wire.specs.declared.limits.TheConstants.{VERSION, FRAME_LIMIT, SUSPENDED_LIMIT}
 use Rattle.dl_wire.specs.declared.request.Ask.{Ask}
 use Rattle.dl_wire.specs.declared.request.Ask.TheVariants as ask
@@ -12,14 +14,12 @@ use Rattle.dl_wire.specs.Answer.{bad_text, welcome_text, frame_text}
 use Rattle.dl_wire.specs.Decode.{request_in}
 use Rattle.dl_wire.specs.Fits.{IsRequest}
 use Rattle.dl_wire.specs.Request.{request_text}
-use Rattle.dl_serve.specs.declared.leave.TheConstants.{TRIES}
 use Rattle.dl_serve.specs.declared.left.Left.{Left}
 use Rattle.dl_serve.specs.declared.stream.Ended.{Ended}
 use Rattle.dl_serve.specs.declared.stream.Ended.TheVariants as ended
 use Rattle.dl_serve.specs.declared.stream.Served.{Served}
 use Rattle.dl_serve.specs.declared.stream.Stop.{Stop}
 use Rattle.dl_serve.specs.declared.stream.Stop.TheVariants as stop
-use Rattle.dl_serve.specs.Event.{has_drained}
 use Rattle.dl_serve.specs.Asked.{Stage, Chain, IsAsked}
 use Rattle.dl_serve.specs.Frames.{IsLong, IsPartial, HasFrames, tag_of}
 use Rattle.dl_serve.specs.Left.{is_nothing, left_of}

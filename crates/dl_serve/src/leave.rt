@@ -1,25 +1,20 @@
 // Blocks that are written, logs that are finished, and clients that leave.
 ghost use Rattle.std.specs.Prelude.{◌≡◌, ◌++◌, ℕ, List, true, IfOk, OnOk};
 ghost use Rattle.dl_types.specs.declared.event.Event.TheVariants as event;
+ghost use Rattle.dl_hub.specs.Written.{IsWritten};
 ghost use Rattle.dl_serve.specs.Asked.{Chain, IsAsked};
-ghost use Rattle.dl_serve.specs.Left.{is_nothing, IsWritten};
+ghost use Rattle.dl_serve.specs.Left.{is_nothing};
 ghost use Rattle.dl_serve.specs.Serve.{IsAllFlushed, IsWrittenOut, Leaves};
 ghost use Rattle.dl_serve.specs.Session.{stage_of};
 
-use crate::event::has_drained;
 use crate::fault::ServeFault;
 use crate::left::{Left, left_of};
 use crate::session::Session;
 use dl_disk::Disk;
-use dl_hub::Hub;
+use dl_hub::{Hub, TRIES, has_drained};
 use dl_types::{ClientId, Event};
 use std::alloc::Allocator;
 use std::mem;
-
-/// How often at most all is flushed as a stream ends. The tries follow one another at once, since there is no clock here: a fault
-/// that passes, as that of a write which was interrupted, is over by the next try or the one after it, and one that stays, as
-/// that of a full device, is met by any number of them.
-pub const TRIES: u32 = 4;
 
 impl<A: Allocator + Copy> Session<A> {
     /// Writes blocks, the oldest first, and finishes the logs that linger, until a turn does neither: nothing is left, or the

@@ -2,10 +2,11 @@
 ghost use Rattle.std.specs.Prelude.{◌≡◌, ◌++◌, ◌≤◌, ℕ, List, [], false, true, OnOk, IfOk, drop, length};
 ghost use Rattle.std.specs.List.{flat_map};
 ghost use Rattle.std.specs.Io.KnownBytes.{Appends, Consumes, IsAtEnd};
+ghost use Rattle.dl_hub.specs.Written.{IsWritten};
 ghost use Rattle.dl_wire.specs.declared.limits.TheConstants.{FRAME_LIMIT};
 ghost use Rattle.dl_wire.specs.Answer.{frame_text};
 ghost use Rattle.dl_serve.specs.Asked.{Chain};
-ghost use Rattle.dl_serve.specs.Left.{is_nothing, IsWritten};
+ghost use Rattle.dl_serve.specs.Left.{is_nothing};
 ghost use Rattle.dl_serve.specs.Serve.{welcome_frame, IsDone, IsServed, IsStopped, IsTaken, Serves};
 ghost use Rattle.dl_serve.specs.Session.{stage_of};
 

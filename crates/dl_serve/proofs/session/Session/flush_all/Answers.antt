@@ -1,10 +1,11 @@
 -- Each turn that drained a log is one more, and the first that drained none is the last.
 use Rattle.std.proofs.Common.{◌≡◌, ◌++◌, ℕ, suc, List, false, true, refl, sym, ap, ◌∙◌, rules}
-use Rattle.dl_serve.specs.Event.{has_drained}
+use Rattle.dl_hub.specs.Written.{has_drained}
+use Rattle.dl_hub.proofs.Written.{fewer}
 use Rattle.dl_serve.specs.Asked.{outcome_frames, will_wait}
 use Rattle.dl_serve.specs.Left.{is_nothing}
 use Rattle.dl_serve.specs.Session.{stage_of}
-use Rattle.dl_serve.proofs.Flushes.{fewer, flush_last, flush_unasked, flushed_more, nothing_left}
+use Rattle.dl_serve.proofs.Flushes.{flush_last, flush_unasked, flushed_more, nothing_left}
 use Rattle.dl_serve.proofs.session.Session.flush_all.Goals as goal
 
 pub loop-self-init : goal.loop-self-init

@@ -1,6 +1,6 @@
 -- The first time that leaves nothing is the last one, or the last that may be.
 use Rattle.std.proofs.Common.{[], ◌≡◌, ◌≤◌, ◌++◌, ℕ, List, false, true, true≢false, sym, ap, ◌∙◌, append_assoc, append-nil, arith, rules}
-use Rattle.dl_serve.specs.declared.leave.TheConstants.{TRIES}
+use Rattle.dl_hub.specs.declared.drained.TheConstants.{TRIES}
 use Rattle.dl_serve.specs.Left.{is_nothing}
 use Rattle.dl_serve.specs.Session.{stage_of}
 use Rattle.dl_serve.proofs.Outs.{ok_then, tried_none, tried_more, tried_last}
