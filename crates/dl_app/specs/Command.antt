@@ -11,10 +11,10 @@ use Rattle.dl_types.specs.declared.place.Place.{Place}
 use Rattle.dl_types.specs.declared.place.Place.TheVariants as place
 use Rattle.dl_types.specs.declared.refusal.Refusal.{Refusal}
 use Rattle.dl_types.specs.declared.size.Kind.{Kind}
-use Rattle.dl_types.specs.declared.size.Kind.TheVariants.{Halt, Wrap}
 use Rattle.dl_types.specs.declared.size.Size.{Size}
 use Rattle.dl_types.specs.Mode.{plain_args}
 use Rattle.dl_types.specs.Name.{IsNameText, name_of, base_from}
+use Rattle.dl_types.specs.Printed.{kind_word}
 use Rattle.dl_types.specs.FileText.{IsFileName, file_text}
 use Rattle.dl_app.specs.declared.command.Command.{Command}
 use Rattle.dl_app.specs.declared.command.Command.TheVariants as command
@@ -27,11 +27,6 @@ use Rattle.dl_app.specs.declared.options.Settings.{Settings}
 use Rattle.dl_app.specs.Options.{SetAll}
 use Rattle.dl_app.specs.Settings.{args_of}
 use Rattle.dl_app.specs.Items.{is_item, item_bytes, refusal_of, head_bytes, head_refusal}
-
--- the word of a kind of log
-abbrev pub kind_word : Kind → List ℕ
-kind_word Halt = codes "halt"
-kind_word Wrap = codes "wrap"
 
 -- how a log is to be opened: the word of its kind, and then its options
 abbrev pub GivesArgs : List (List ℕ) → Kind → Settings → Type 0

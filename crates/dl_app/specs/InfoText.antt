@@ -14,9 +14,8 @@ use Rattle.dl_types.specs.declared.size.Kind.{Kind}
 use Rattle.dl_types.specs.declared.size.Mode.{Mode}
 use Rattle.dl_types.specs.declared.size.Size.{Size}
 use Rattle.dl_types.specs.Name.{name_text, base_text}
-use Rattle.dl_types.specs.Printed.{characters_of, size_text}
+use Rattle.dl_types.specs.Printed.{characters_of, size_text, kind_word}
 use Rattle.dl_lines.specs.Digits.{hex}
-use Rattle.dl_app.specs.Command.{kind_word}
 use Rattle.dl_app.specs.Options.{mode_word}
 
 -- the word of a truth

@@ -3,7 +3,6 @@ ghost use Rattle.std.specs.Prelude.{◌≡◌, ◌++◌, codes, IfErr, OnOk};
 ghost use Rattle.std.specs.Fmt.{decimal};
 ghost use Rattle.std.specs.List.{flat_map};
 ghost use Rattle.dl_app.specs.InfoText.{names_text, form_text, info_text, next_owner_text, owner_text, owners_text, users_text, status_word, head_text, extent_text, files_text, overflows_text, writing_text, more_text, yes_or_no};
-ghost use Rattle.dl_app.specs.Command.{kind_word};
 ghost use Rattle.dl_app.specs.Options.{mode_word};
 
 use crate::fault::ScriptFault;
@@ -42,19 +41,9 @@ fn push_form<A: Allocator>(
     ensures text { OnOk result (text.new.items ≡ text.old.items ++ form_text kind size mode) }
     ensures fault { IfErr result (λ e. e ≡ ScriptFault.OutOfMemory) }
 {
-    let kind = kind_word(kind);
+    let kind = kind.word();
     let mode = mode_word(mode);
     write!(text, " {kind} {size} {mode}").map_err(|_| ScriptFault::OutOfMemory)
-}
-
-// The word of a kind.
-fn kind_word(kind: Kind) -> &'static str
-    ensures { result.now ≡ kind_word kind }
-{
-    match kind {
-        Kind::Halt => "halt",
-        Kind::Wrap => "wrap",
-    }
 }
 
 // The word of a mode.

@@ -5,12 +5,13 @@ ghost use Rattle.std.specs.List.{list_all};
 ghost use Rattle.dl_types.specs.declared.size.Size.{Size};
 ghost use Rattle.dl_types.specs.declared.name.Base.{Base};
 ghost use Rattle.dl_types.specs.declared.size.Kind.{Kind};
+ghost use Rattle.dl_types.specs.Printed.{kind_word};
 ghost use Rattle.dl_app.specs.declared.options.Settings.{Settings};
 ghost use Rattle.dl_app.specs.declared.command.Request.{Request};
 ghost use Rattle.dl_app.specs.declared.command.Start.{Start};
 ghost use Rattle.dl_app.specs.Items.{is_item};
 ghost use Rattle.dl_app.specs.Words.{words_left};
-ghost use Rattle.dl_app.specs.Command.{GivesRequest, GivesArgs, GivesChunk, GivesStep, GivesHead, GivesMove, GivesSize, GivesBlock, kind_word, request_word, takes_words, start_word, block_word};
+ghost use Rattle.dl_app.specs.Command.{GivesRequest, GivesArgs, GivesChunk, GivesStep, GivesHead, GivesMove, GivesSize, GivesBlock, request_word, takes_words, start_word, block_word};
 
 use crate::command::{Request, Start};
 use crate::items::is_item;

@@ -6,13 +6,14 @@ use Rattle.dl_types.specs.declared.name.ClientId.{ClientId}
 use Rattle.dl_types.specs.declared.reply.Outcome.{Outcome}
 use Rattle.dl_types.specs.declared.reply.Reply.{Reply}
 use Rattle.dl_types.specs.Notice.{Told}
+use Rattle.dl_types.specs.Block.{may_wake}
 use Rattle.dl_disk.specs.Disk.{DiskState}
 use Rattle.dl_hub.specs.View.{HubView}
 use Rattle.dl_hub.specs.Step.{IsStep}
 use Rattle.dl_wire.specs.declared.limits.TheConstants.{SUSPENDED_LIMIT}
 use Rattle.dl_wire.specs.Answer.{answer_text, notice_text, frame_text}
 use Rattle.dl_serve.specs.declared.waiting.Waiting.{Waiting}
-use Rattle.dl_serve.specs.Event.{may_wake, joiner_of, is_suspended, with_client}
+use Rattle.dl_serve.specs.Event.{joiner_of, is_suspended, with_client}
 
 -- what was come to: a hub, the calls that blocks suspended, the oldest first, and the clients that may have a part in a log
 pub record Stage (D Z : Type 0) : Type 0 where

@@ -10,18 +10,6 @@ use Rattle.dl_types.specs.declared.reply.Reply.TheVariants as reply
 use Rattle.dl_types.specs.Name.{is_among}
 
 module _ {Z : Type 0} where
-  -- a call by which a block may fall or a log end
-  abbrev pub call_may_wake : Call Z → Bool
-  call_may_wake call.Unblock = true
-  call_may_wake call.Close = true
-  call_may_wake other = false
-
-  -- an event by which a block may fall or a log end
-  abbrev pub may_wake : Event Z → Bool
-  may_wake (event.Call client log asked) = call_may_wake asked
-  may_wake (event.Exit client) = true
-  may_wake event.Flush = false
-
   -- a call by which a client may come to have a part in a log, or to block one
   abbrev pub call_joins : Call Z → Bool
   call_joins (call.Open args) = true

@@ -2,11 +2,11 @@
 ghost use Rattle.std.specs.Prelude.{◌≡◌, ◌++◌, ◌∷◌, ◌<◌, [], ℕ, List, OnOk, nat_lt, vec_len};
 ghost use Rattle.dl_types.specs.declared.reply.Outcome.{Outcome};
 ghost use Rattle.dl_hub.specs.Step.{IsStep};
-ghost use Rattle.dl_serve.specs.Event.{is_suspended, may_wake};
+ghost use Rattle.dl_serve.specs.Event.{is_suspended};
 ghost use Rattle.dl_serve.specs.Asked.{AreMade, Wakes, IsAsked, kept_of, outcome_frames, will_wait, with_waiting};
 ghost use Rattle.dl_serve.specs.Session.{stage_of};
 
-use crate::event::{is_suspended, joiner_of, may_wake};
+use crate::event::{is_suspended, joiner_of};
 use crate::fault::ServeFault;
 use crate::session::{Session, add_client, push_outcome};
 use crate::waiting::Waiting;
@@ -29,7 +29,7 @@ impl<A: Allocator + Copy> Session<A> {
         ensures { OnOk result ((frames : List ℕ) × IsAsked D.state tag event (stage_of hub.old self.old) (stage_of hub.new self.new) frames × (self.new.frames.items ≡ self.old.frames.items ++ frames)) }
     {
         add_client(&mut self.clients, joiner_of(&event))?;
-        let wakes = may_wake(&event);
+        let wakes = event.may_wake();
         let outcome = hub.apply(&event);
         self.answer(tag, event, &outcome)?;
         self.wake(wakes, hub)?;

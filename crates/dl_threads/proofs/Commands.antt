@@ -15,9 +15,6 @@ use Rattle.dl_threads.proofs.Slices.{left_by}
 abbrev pub ReadsOn : List (List ℕ) → List Command → List (List ℕ) → Type 0
 ReadsOn lines commands rest = (later : List Command) → AreCommands rest later → AreCommands lines (commands ++ later)
 
-pub reads_none : (lines : List (List ℕ)) → ReadsOn lines [] lines
-reads_none lines = λ later all. all
-
 pub reads_more : (lines : List (List ℕ)) (commands : List Command) (line : List ℕ) (rest : List (List ℕ)) (one : Command) → ReadsOn lines commands (line ∷ rest) → IsForm (words_of line) one → ReadsOn lines (commands ++ one ∷ []) rest
 reads_more lines commands line rest one before form = λ later all.
     subst (AreCommands lines) (sym (append_assoc commands (one ∷ []) later)) (before (one ∷ later) (inr (one, later, form, all, refl)))

@@ -1,19 +1,12 @@
 -- What is found of a log, as a line.
 use Rattle.std.specs.Prelude.{◌≡◌, ◌==◌, ℕ, List, [], ◌∷◌, ◌++◌, codes, if◌then◌else◌}
 use Rattle.std.specs.Fmt.{decimal}
-use Rattle.dl_types.specs.declared.size.Kind.{Kind}
-use Rattle.dl_types.specs.declared.size.Kind.TheVariants.{Halt, Wrap}
 use Rattle.dl_types.specs.Name.{base_text}
-use Rattle.dl_types.specs.Printed.{characters_of, printed_file, refusal_text}
+use Rattle.dl_types.specs.Printed.{characters_of, kind_word, printed_file, refusal_text}
 use Rattle.dl_tool.specs.declared.finding.Amount.{Amount}
 use Rattle.dl_tool.specs.declared.finding.Finding.{Finding}
 use Rattle.dl_tool.specs.declared.finding.Finding.TheVariants.{Absent, Clean, Torn, Refused, Unread}
 use Rattle.dl_tool.specs.declared.line.LogFiles.{LogFiles}
-
--- the word of a kind
-abbrev pub kind_word : Kind → List ℕ
-kind_word Halt = codes "halt"
-kind_word Wrap = codes "wrap"
 
 -- a log, and a space
 abbrev pub log_text : LogFiles → List ℕ

@@ -4,6 +4,7 @@ use Rattle.std.specs.Fmt.{decimal}
 use Rattle.std.specs.List.{flat_map}
 use Rattle.dl_types.specs.Add.{capped}
 use Rattle.dl_types.specs.Name.{base_text}
+use Rattle.dl_types.specs.Printed.{kind_word}
 use Rattle.dl_tool.specs.declared.finding.Amount.{Amount}
 use Rattle.dl_tool.specs.declared.finding.Finding.{Finding}
 use Rattle.dl_tool.specs.declared.finding.Finding.TheVariants.{Absent, Clean, Torn, Refused, Unread}
@@ -13,7 +14,7 @@ use Rattle.dl_tool.specs.declared.table.Entry.{Entry}
 use Rattle.dl_tool.specs.declared.table.Entry.TheVariants.{Head, Log, Total}
 use Rattle.dl_tool.specs.declared.table.Row.{Row}
 use Rattle.dl_tool.specs.declared.table.Widths.{Widths}
-use Rattle.dl_tool.specs.Line.{kind_word, whole_word}
+use Rattle.dl_tool.specs.Line.{whole_word}
 
 -- how much a log has, if that is known
 abbrev pub amount_in : Finding → Option Amount

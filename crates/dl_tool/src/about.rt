@@ -3,14 +3,13 @@ ghost use Rattle.std.specs.Prelude.{◌≡◌, ◌++◌, List, ℕ, IsTrue, IfOk
 ghost use Rattle.std.specs.Io.KnownBytes.{Appends};
 ghost use Rattle.std.specs.Fmt.{decimal};
 ghost use Rattle.dl_types.specs.Name.{base_text};
-ghost use Rattle.dl_types.specs.Printed.{characters_of, printed_file, refusal_text};
+ghost use Rattle.dl_types.specs.Printed.{characters_of, printed_file, refusal_text, kind_word};
 ghost use Rattle.dl_tool.specs.About.{field, log_fields, size_field, count_fields, amount_fields, state_field, keeps_text, repair_text, IsStateText, IsInfo};
-ghost use Rattle.dl_tool.specs.Line.{kind_word};
 ghost use Rattle.dl_tool.specs.Report.{FindsLog};
 
 use crate::check::check_log;
 use crate::finding::{Amount, Finding};
-use crate::line::{LogFiles, kind_word, push_bytes, push_cut, whole_word};
+use crate::line::{LogFiles, push_bytes, push_cut, whole_word};
 use crate::report::{ReportFault, write_text};
 use dl_disk::Disk;
 use dl_types::{Base, FileName, Kind, Refusal, Size};
@@ -67,7 +66,7 @@ fn push_name<A: Allocator>(text: &mut Vec<u8, A>, base: Base) -> Result<(), Allo
 fn push_kind<A: Allocator>(text: &mut Vec<u8, A>, kind: Kind) -> Result<(), AllocError>
     ensures { OnOk result (text.new.items ≡ text.old.items ++ field (codes "kind") (kind_word kind)) }
 {
-    let kind = kind_word(kind);
+    let kind = kind.word();
     write!(text, "kind: {kind}\n").map_err(|_| AllocError)
 }
 

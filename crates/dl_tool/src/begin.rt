@@ -8,7 +8,7 @@ ghost use Rattle.dl_tool.specs.Folder.{main_file};
 use crate::folder::sorted_names;
 use crate::line::LogFiles;
 use dl_disk::{Disk, ListFault};
-use dl_types::{Base, FileName, Kind, Part};
+use dl_types::{Base, FileName, Kind};
 use std::alloc::{AllocError, Allocator};
 
 /// The files that are in the way of a log that is not there: all of its base, that of a log of the other kind first, and then
@@ -37,13 +37,9 @@ pub fn files_in_way<D: Disk, A: Allocator + Copy>(
 fn main_file(log: LogFiles) -> FileName
     ensures { result ≡ main_file log }
 {
-    let part = match log.kind {
-        Kind::Halt => Part::Halt,
-        Kind::Wrap => Part::Index,
-    };
-    FileName {
-        base: log.base,
-        part,
+    match log.kind {
+        Kind::Halt => FileName::halt(log.base),
+        Kind::Wrap => FileName::index(log.base),
     }
 }
 

@@ -4,7 +4,7 @@ ghost use Rattle.dl_types.specs.Printed.{printed_file, refusal_text};
 ghost use Rattle.dl_tool.specs.Json.{json_log, json_size, json_state, json_counts, json_amount, json_repair, json_field, json_end, IsJsonText, IsJson};
 
 use crate::finding::{Amount, Finding};
-use crate::line::{LogFiles, kind_word, push_bytes, whole_word};
+use crate::line::{LogFiles, push_bytes, whole_word};
 use dl_types::{FileName, Refusal, Size};
 use std::alloc::{AllocError, Allocator};
 use std::io::Write;
@@ -35,7 +35,7 @@ fn push_log<A: Allocator>(text: &mut Vec<u8, A>, log: LogFiles) -> Result<(), Al
     ensures { OnOk result (text.new.items ≡ text.old.items ++ json_log log) }
 {
     let base = log.base;
-    let kind = kind_word(log.kind);
+    let kind = log.kind.word();
     write!(text, "{{\"name\":\"{base}\",\"kind\":\"{kind}\"").map_err(|_| AllocError)
 }
 

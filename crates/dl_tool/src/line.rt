@@ -1,7 +1,7 @@
 // What is found of a log, as a line.
 ghost use Rattle.std.specs.Prelude.{◌≡◌, ◌++◌, List, ℕ, OnOk, codes};
 ghost use Rattle.dl_types.specs.Printed.{printed_file, refusal_text};
-ghost use Rattle.dl_tool.specs.Line.{kind_word, whole_word, log_text, amount_text, kept_text, cut_text, IsFindingText, IsLine};
+ghost use Rattle.dl_tool.specs.Line.{whole_word, log_text, amount_text, kept_text, cut_text, IsFindingText, IsLine};
 
 use crate::finding::{Amount, Finding};
 use dl_types::{Base, FileName, Kind, Refusal};
@@ -29,16 +29,6 @@ pub fn push_line<A: Allocator + Copy>(
     push_bytes(text, b"\n")
 }
 
-/// The word of a kind.
-pub fn kind_word(kind: Kind) -> &'static str
-    ensures { result.now ≡ kind_word kind }
-{
-    match kind {
-        Kind::Halt => "halt",
-        Kind::Wrap => "wrap",
-    }
-}
-
 /// The word of a log that is opened as it is, by its bad bytes, which are those of older files.
 pub fn whole_word(bad: u64) -> &'static str
     ensures { result.now ≡ whole_word bad }
@@ -51,7 +41,7 @@ fn push_log<A: Allocator>(text: &mut Vec<u8, A>, log: LogFiles) -> Result<(), Al
     ensures { OnOk result (text.new.items ≡ text.old.items ++ log_text log) }
 {
     let base = log.base;
-    let kind = kind_word(log.kind);
+    let kind = log.kind.word();
     write!(text, "{base} {kind} ").map_err(|_| AllocError)
 }
 

@@ -3,7 +3,7 @@ ghost use Rattle.std.specs.Prelude.{◌≡◌, ◌++◌, OnOk};
 ghost use Rattle.dl_tool.specs.Table.{amount_in, share_of, total_with, total_of, state_word, head_cell, amount_cell, total_cell, known_cell, log_cell, cell};
 
 use crate::finding::{Amount, Finding};
-use crate::line::{LogFiles, kind_word, push_bytes, whole_word};
+use crate::line::{LogFiles, push_bytes, whole_word};
 use std::alloc::{AllocError, Allocator};
 use std::io::Write;
 
@@ -141,7 +141,7 @@ fn push_log_cell<A: Allocator>(
             let base = row.log.base;
             push_bytes(text, base.as_bytes())
         }
-        Column::Kind => push_bytes(text, kind_word(row.log.kind).as_bytes()),
+        Column::Kind => push_bytes(text, row.log.kind.word().as_bytes()),
         Column::Files | Column::Items | Column::Bytes | Column::Bad => {
             push_known_cell(text, column, amount_in(row.found))
         }

@@ -2,7 +2,6 @@
 use Rattle.std.specs.Prelude.{ℕ, List, [], ◌∷◌, true, false, None}
 use Rattle.std.specs.declared.alloc.Global.{Global}
 use Rattle.dl_types.specs.declared.file.FileName.{FileName}
-use Rattle.dl_types.specs.declared.file.Part.TheVariants.{Index, Numbered}
 use Rattle.dl_types.specs.declared.call.Call.{Call}
 use Rattle.dl_types.specs.declared.call.Call.TheVariants as call
 use Rattle.dl_types.specs.declared.name.Name.{Name}
@@ -13,7 +12,7 @@ use Rattle.dl_types.specs.declared.reply.Reply.TheVariants as reply
 use Rattle.dl_types.specs.declared.reply.Status.TheVariants as status
 use Rattle.dl_types.specs.Notice.{Told, Changed}
 use Rattle.dl_types.specs.Name.{name_of, base_from}
-use Rattle.dl_types.specs.FileName.{halt_file}
+use Rattle.dl_types.specs.FileName.{halt_file, index_file, numbered_file}
 use Rattle.dl_types.specs.Members.{released, after_close, unblocked}
 use Rattle.dl_types.specs.State.{LogState}
 use Rattle.dl_types.specs.Progress.{at_first}
@@ -43,16 +42,9 @@ unclosed L f s =
 abbrev pub at_once : Site
 at_once = record { items = 0; named = false }
 
-abbrev pub unbegun : Site
-unbegun = record { items = 0; named = true }
-
 -- what client 1 is told of the status
 abbrev pub fault_told : List ℕ → FileName → List Told
 fault_told log f = told_to 1 log (Changed (change.ErrorStatus (status.Fault (DeviceFault f)))) ∷ []
-
--- a log after more lines
-abbrev pub state_then : LogState → List Line → LogState
-state_then s lines = solo_state (name_of log_a) s (asked lines)
 
 -- ---- a halt log
 abbrev pub file_a : FileName
@@ -111,7 +103,7 @@ second_read = chunks 1 log_a Start 9 (items_to log_a 1 (item_y ∷ [])) ∷ []
 -- ---- a wrap log
 -- of two items of a call the second needs a roll, whose file cannot be put
 abbrev pub file_w : FileName
-file_w = record { base = base_from log_w; part = Numbered 2 }
+file_w = numbered_file (base_from log_w) 2
 
 abbrev pub rolled_only : Answer Global
 rolled_only = failed (name_of log_w) (call.Log (ten_a ∷ ten_b ∷ [])) file_w (record { items = 1; named = true }) (opened_w (wrap_args 40 3 None))
@@ -125,4 +117,4 @@ goes_on =
 
 -- the index cannot be put: the log has not gone on
 abbrev pub stayed : Answer Global
-stayed = failed (name_of log_w) call.NextFile (record { base = base_from log_w; part = Index }) at_once (opened_w (wrap_args 40 3 None))
+stayed = failed (name_of log_w) call.NextFile (index_file (base_from log_w)) at_once (opened_w (wrap_args 40 3 None))

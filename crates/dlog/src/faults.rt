@@ -5,7 +5,7 @@ ghost use Rattle.std.specs.Process.{exit_status};
 use crate::noted::Why;
 use crate::tell;
 use dl_pipe::PipeFault;
-use dl_types::{Base, FileName, Name, Part, Refusal};
+use dl_types::{Base, FileName, Name, Refusal};
 use std::fmt::Display;
 use std::fs::{OpenOptions, symlink_metadata};
 use std::io::ErrorKind;
@@ -133,14 +133,11 @@ fn advise_on_files(rt: &HostRuntime, place: Place<'_>, refusal: Refusal) {
 
 // The file of a log that this number names in a refusal: 0 is that of a halt log.
 fn file_of(log: Name, number: u32) -> FileName {
-    let part = if number == 0 {
-        Part::Halt
+    let base = Base::of(log);
+    if number == 0 {
+        FileName::halt(base)
     } else {
-        Part::Numbered(number)
-    };
-    FileName {
-        base: Base::of(log),
-        part,
+        FileName::numbered(base, number)
     }
 }
 

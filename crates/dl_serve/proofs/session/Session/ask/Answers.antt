@@ -1,8 +1,9 @@
 use Rattle.std.proofs.Common.{◌++◌, ℕ, List, Bool, Option, refl, ap, ◌∙◌, subst, append_assoc}
 use Rattle.dl_types.specs.declared.name.ClientId.{ClientId}
+use Rattle.dl_types.specs.Block.{may_wake}
 use Rattle.dl_serve.specs.declared.waiting.Waiting.{Waiting}
 use Rattle.dl_serve.specs.Asked.{Wakes, IsAsked, outcome_frames, will_wait}
-use Rattle.dl_serve.specs.Event.{may_wake, with_client}
+use Rattle.dl_serve.specs.Event.{with_client}
 use Rattle.dl_serve.specs.Session.{stage_of}
 use Rattle.dl_serve.proofs.session.Session.ask.Goals as goal
 
