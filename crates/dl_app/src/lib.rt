@@ -15,6 +15,7 @@ mod script;
 mod verbs;
 mod words;
 
+pub use answer::put_outcome;
 pub use call::call_of;
 pub use command::{Command, Request, command_of, is_passed_over};
 pub use fault::ScriptFault;

@@ -51,6 +51,8 @@ pub enum CaseFault {
     NoRefusal(u64),
     #[error("line {0} is refused memory, however much there is")]
     Starves(u64),
+    #[error("line {0} is not kept as it is answered, or was kept before")]
+    BadHistory(u64),
     #[error("the files that a fault leaves are not opened")]
     NotOpened,
     #[error("a log has more files or items than a sweep reads")]
@@ -111,6 +113,10 @@ pub enum How {
     Starved {
         bytes: usize,
     },
+    /// The same of a hub that keeps its history.
+    StarvedKept {
+        bytes: usize,
+    },
     /// In memory, on a file of which no more than its first bytes are left.
     Cut {
         file: FileName,
@@ -146,6 +152,7 @@ impl fmt::Display for How {
             }
             How::Stopped { calls } => write!(f, "stopped after {calls} calls"),
             How::Starved { bytes } => write!(f, "with {bytes} bytes of memory left"),
+            How::StarvedKept { bytes } => write!(f, "kept, with {bytes} bytes of memory left"),
             How::Cut { file, length } => write!(f, "{file} cut to {length} bytes"),
             How::Changed { file, at, value } => write!(f, "byte {at} of {file} set to {value}"),
         }

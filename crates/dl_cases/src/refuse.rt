@@ -1,6 +1,8 @@
 // A case each of whose calls is refused memory until there is enough.
 use crate::case::{Line, Step};
 use crate::fault::{CaseFault, How};
+use crate::heap::{HEAP_BYTES, PART_BYTES, take_all_but};
+use crate::kept::keep_each;
 use crate::memory::laid_files;
 use crate::order::may_be_repeated;
 use crate::script::{compare_one, lines_of};
@@ -9,16 +11,7 @@ use dl_app::{ScriptFault, Session};
 use dl_disk::MemoryDisk;
 use dl_hub::Hub;
 use linked_list_allocator::LocalHeap;
-use std::alloc::{AllocError, Global};
-
-// The bytes of the heap that the hub has, and of the one in which its script is read.
-const HEAP_BYTES: usize = 1_048_576;
-
-// The bytes of the least part of a heap.
-const PART_BYTES: usize = 16;
-
-// How many parts a heap is taken in at most.
-const PARTS_LIMIT: usize = 1_000;
+use std::alloc::Global;
 
 // What a call answers that was refused memory.
 const REFUSED: &[u8] = b"out of memory\n";
@@ -32,7 +25,8 @@ struct Bench<'h> {
     hub: Hub<MemoryDisk, &'h LocalHeap>,
 }
 
-/// Runs a case with each call refused memory at first, and then given more and more until it is done, if the case asks for it.
+/// Runs a case with each call refused memory at first, and then given more and more until it is done, if the case asks for it:
+/// on a hub, and on one that keeps its history.
 pub fn run_refusals(alloc: Global, steps: &[Step<'_>], trial: &mut Trial) -> Result<(), CaseFault> {
     for step in steps {
         if let Step::Refuse(number) = step {
@@ -56,9 +50,11 @@ fn refuse_each(
     let other = LocalHeap::new(alloc, HEAP_BYTES)?;
     let files = laid_files(alloc, steps)?;
     let lines = lines_of(alloc, steps)?;
-    refuse_on(alloc, &heap, &other, files, lines.as_slice(), trial)?
-        .then_some(())
-        .ok_or(CaseFault::NoRefusal(number))
+    if !refuse_on(alloc, &heap, &other, files, lines.as_slice(), trial)? {
+        return Err(CaseFault::NoRefusal(number));
+    }
+    let files = laid_files(alloc, steps)?;
+    keep_each(alloc, &heap, &other, files, lines.as_slice(), trial)
 }
 
 // Runs lines on a hub in a heap, whose script is read in the other one. Returns whether one was refused memory.
@@ -125,31 +121,4 @@ impl Bench<'_> {
             Err(fault) => Err(CaseFault::Script(fault)),
         }
     }
-}
-
-// Takes all of a heap but one part of so many bytes.
-fn take_all_but<'h>(
-    alloc: Global,
-    heap: &'h LocalHeap,
-    bytes: usize,
-) -> Result<Vec<Vec<u8, &'h LocalHeap>>, AllocError> {
-    let _left: Vec<u8, &LocalHeap> = Vec::with_capacity(heap, bytes)?;
-    take_all(alloc, heap)
-}
-
-// Takes all of a heap, in parts that are as large as it has them.
-fn take_all<'h>(
-    alloc: Global,
-    heap: &'h LocalHeap,
-) -> Result<Vec<Vec<u8, &'h LocalHeap>>, AllocError> {
-    let mut parts = Vec::new(alloc);
-    let mut bytes = HEAP_BYTES;
-    for _ in 0..PARTS_LIMIT {
-        match Vec::with_capacity(heap, bytes) {
-            Ok(part) => parts.push(part)?,
-            Err(_) if bytes > PART_BYTES => bytes /= 2,
-            Err(_) => break,
-        }
-    }
-    Ok(parts)
 }
