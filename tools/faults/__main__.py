@@ -36,6 +36,8 @@ the files what the trace says, so that each line is judged with the files as the
    file it names last.
 7. If no call fails in the turns at the end, the last of them is idle.
 8. A new process reads from the files that are left just what they say.
+
+Without --device a server is then served a few calls too, whose last writes fail (`served.py`).
 """
 import argparse
 import os
@@ -48,6 +50,7 @@ sys.dont_write_bytecode = True
 
 import faults
 import scripts
+import served
 import traced
 from folder import Folder
 from judge import Judge
@@ -221,8 +224,11 @@ def main():
         trials = Trials(os.path.realpath(words.program), scratch, place)
         found = judge_scripts(trials, words)
         trials.fill({}, None)
-    print(f"{trials.counts}, {found} wrong")
-    return 1 if found else 0
+        runs, wrong = (0, []) if words.device else served.judge(trials.program, scratch)
+    for reason in wrong:
+        print(f"WRONG: a server: {reason}")
+    print(f"{trials.counts}, {found} wrong; {runs} servers, {len(wrong)} wrong")
+    return 1 if found or wrong else 0
 
 
 if __name__ == "__main__":

@@ -140,7 +140,9 @@ class Folder:
         old, new = call.files
         base = old.split(".")[0]
         is_put = old.endswith(".new")
-        beside = {name for name in self.dirty if name.split(".")[0] == base and not (is_put and name == new)}
+        # A draft that could not be removed is no file of a log.
+        files = {name for name in self.dirty if name == old or not name.endswith(".new")}
+        beside = {name for name in files if name.split(".")[0] == base and not (is_put and name == new)}
         if beside:
             self.wrong.append(f"not durable before {call.title()}: {' '.join(sorted(beside))}")
         self.check_names(call)

@@ -137,7 +137,7 @@ def strays(logs, texts, base):
     """The numbered files under a base that neither a wrap log nor, where none is there, an index names."""
     there = {name for name in texts if name.split(".")[0] == base and name.split(".")[1].isdigit()}
     for log in logs:
-        if log.base == base:
-            return there - set(log.names()) if log.kind == "wrap" else set()
+        if log.base == base and log.kind == "wrap":
+            return there - set(log.names())
     index = read_index(texts.get(f"{base}.idx", b""))
     return there - {f"{base}.{number}" for number, _ in index.entries} if index else there
