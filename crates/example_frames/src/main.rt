@@ -15,9 +15,14 @@ const BLOCKS: u32 = 16;
 
 fn main(rt: HostRuntime) -> Result<()> {
     let mut hub = Hub::new(rt.alloc(), MemoryDisk::new(rt.alloc()), BLOCKS)?;
+    serve_all(&rt, &mut hub)
+}
+
+// Serves a hub up to the end of the input.
+fn serve_all(rt: &HostRuntime, hub: &mut Hub<MemoryDisk>) -> Result<()> {
     let mut input = rt.reader();
-    let mut output = io::writer(&rt);
-    let served = serve(rt.alloc(), &mut input, &mut output, &mut hub)?;
+    let mut output = io::writer(rt);
+    let served = serve(rt.alloc(), &mut input, &mut output, hub)?;
     match served.ended {
         Ended::Input => {}
         Ended::LongFrame => bail!("a frame is too long"),
