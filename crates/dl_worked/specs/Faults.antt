@@ -16,7 +16,6 @@ use Rattle.dl_types.specs.FileName.{halt_file, index_file, numbered_file}
 use Rattle.dl_types.specs.Members.{released, after_close, unblocked}
 use Rattle.dl_types.specs.State.{LogState}
 use Rattle.dl_types.specs.Progress.{at_first}
-use Rattle.dl_types.specs.Solo.{solo_state}
 use Rattle.dl_types.specs.Alone.{Answer, says, if_open, files_at, with_members, and_sent, fall, and_ends}
 use Rattle.dl_types.specs.Faulty.{Site, reached, ends_at, failed_turn}
 use Rattle.dl_worked.specs.Script.{Line, client_of, blocks, sends, opens, opens_with, logs, chunks, telling, told_to, items_to, items_in, asked, log_after, refused}

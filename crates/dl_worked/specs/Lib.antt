@@ -7,3 +7,4 @@ pub mod Wrap
 pub mod Blocks
 pub mod Sent
 pub mod Faults
+pub mod Texts
