@@ -20,6 +20,7 @@ total_more rows row =
       items = sum_snoc (λ r. (share_of (amount_in r.found)).items) rows row j;
       bytes = sum_snoc (λ r. (share_of (amount_in r.found)).bytes) rows row j;
       bad = sum_snoc (λ r. (share_of (amount_in r.found)).bad) rows row j;
+      miscounted = sum_snoc (λ r. (share_of (amount_in r.found)).miscounted) rows row j;
       stored = None;
     }
 

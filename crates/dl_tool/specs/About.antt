@@ -1,5 +1,5 @@
 -- What is found of a log, one field on a line.
-use Rattle.std.specs.Prelude.{◌≡◌, ℕ, List, [], ◌∷◌, ◌++◌, Option, Some, None, codes}
+use Rattle.std.specs.Prelude.{◌≡◌, ℕ, List, [], ◌∷◌, ◌++◌, ◌==◌, Option, Some, None, codes, if◌then◌else◌}
 use Rattle.std.specs.Fmt.{decimal}
 use Rattle.dl_types.specs.declared.size.Size.{Size}
 use Rattle.dl_types.specs.Name.{base_text}
@@ -27,8 +27,12 @@ size_field (Some size) = field (codes "size") (size_text size)
 abbrev pub count_fields : Amount → List ℕ
 count_fields a = field (codes "files") (decimal a.files) ++ field (codes "items") (decimal a.items) ++ field (codes "bytes") (decimal a.bytes) ++ field (codes "bad") (decimal a.bad)
 
+-- how many older files have a wrong count, if any has
+abbrev pub miscount_field : ℕ → List ℕ
+miscount_field n = if n == 0 then [] else field (codes "miscounted") (decimal n)
+
 abbrev pub amount_fields : Amount → List ℕ
-amount_fields a = size_field a.stored ++ count_fields a
+amount_fields a = size_field a.stored ++ count_fields a ++ miscount_field a.miscounted
 
 abbrev pub state_field : List ℕ → List ℕ
 state_field text = field (codes "state") text
@@ -43,7 +47,7 @@ repair_text kept cut = keeps_text kept ++ cut_text cut
 -- the lines of what was found, after those of the log
 abbrev pub IsStateText : Finding → List ℕ → Type 0
 IsStateText Absent text = text ≡ state_field (codes "no such log")
-IsStateText (Clean a) text = text ≡ amount_fields a ++ state_field (whole_word a.bad)
+IsStateText (Clean a) text = text ≡ amount_fields a ++ state_field (whole_word a)
 IsStateText (Torn a file kept cut) text = text ≡ amount_fields a ++ state_field (repair_text kept cut)
 IsStateText (Refused refusal) text = text ≡ state_field (codes "refused: " ++ refusal_text refusal)
 IsStateText (Unread file) text = text ≡ state_field (codes "cannot read " ++ printed_file file)

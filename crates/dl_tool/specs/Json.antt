@@ -1,5 +1,5 @@
 -- What is found of a log, as a JSON object on a line of its own. No name, file or refusal has a byte that JSON escapes: bases are letters, digits, `_` and `-`.
-use Rattle.std.specs.Prelude.{◌≡◌, ℕ, List, [], ◌∷◌, ◌++◌, Option, Some, None, codes}
+use Rattle.std.specs.Prelude.{◌≡◌, ℕ, List, [], ◌∷◌, ◌++◌, ◌==◌, Option, Some, None, codes, if◌then◌else◌}
 use Rattle.std.specs.Fmt.{decimal}
 use Rattle.dl_types.specs.declared.size.Size.{Size}
 use Rattle.dl_types.specs.Name.{base_text}
@@ -27,9 +27,13 @@ json_state state = codes ",\"state\":\"" ++ state ++ codes "\""
 abbrev pub json_counts : Amount → List ℕ
 json_counts a = codes ",\"files\":" ++ decimal a.files ++ codes ",\"items\":" ++ decimal a.items ++ codes ",\"bytes\":" ++ decimal a.bytes ++ codes ",\"bad\":" ++ decimal a.bad
 
+-- how many older files have a wrong count, if any has
+abbrev pub json_miscount : ℕ → List ℕ
+json_miscount n = if n == 0 then [] else codes ",\"miscounted\":" ++ decimal n
+
 -- a log in this state that has so much
 abbrev pub json_amount : List ℕ → Amount → List ℕ
-json_amount state a = json_size a.stored ++ json_state state ++ json_counts a
+json_amount state a = json_size a.stored ++ json_state state ++ json_counts a ++ json_miscount a.miscounted
 
 -- what a repair would do
 abbrev pub json_repair : ℕ → ℕ → List ℕ
@@ -42,7 +46,7 @@ json_field key text = codes ",\"" ++ key ++ codes "\":\"" ++ text ++ codes "\""
 -- the fields of what was found, after those of the log
 abbrev pub IsJsonText : Finding → List ℕ → Type 0
 IsJsonText Absent text = text ≡ json_state (codes "no such log")
-IsJsonText (Clean a) text = text ≡ json_amount (whole_word a.bad) a
+IsJsonText (Clean a) text = text ≡ json_amount (whole_word a) a
 IsJsonText (Torn a file kept cut) text = text ≡ json_amount (codes "needs repair") a ++ json_repair kept cut
 IsJsonText (Refused refusal) text = text ≡ json_state (codes "refused") ++ json_field (codes "why") (refusal_text refusal)
 IsJsonText (Unread file) text = text ≡ json_state (codes "unread") ++ json_field (codes "file") (printed_file file)

@@ -13,12 +13,19 @@ abbrev pub log_text : LogFiles → List ℕ
 log_text log = characters_of (base_text log.base) ++ codes " " ++ kind_word log.kind ++ codes " "
 
 -- how much a log has
-abbrev pub amount_text : Amount → List ℕ
-amount_text a = codes "files=" ++ decimal a.files ++ codes " items=" ++ decimal a.items ++ codes " bytes=" ++ decimal a.bytes ++ codes " bad=" ++ decimal a.bad
+abbrev pub counts_text : Amount → List ℕ
+counts_text a = codes "files=" ++ decimal a.files ++ codes " items=" ++ decimal a.items ++ codes " bytes=" ++ decimal a.bytes ++ codes " bad=" ++ decimal a.bad
 
--- the word of a log that is opened as it is, by its bad bytes: those of older files stay
-abbrev pub whole_word : ℕ → List ℕ
-whole_word bad = if bad == 0 then codes "clean" else codes "damaged"
+-- how many older files have a wrong count, if any has
+abbrev pub miscount_text : ℕ → List ℕ
+miscount_text n = if n == 0 then [] else codes " miscounted=" ++ decimal n
+
+abbrev pub amount_text : Amount → List ℕ
+amount_text a = counts_text a ++ miscount_text a.miscounted
+
+-- the word of a log that is opened as it is, by its bad bytes and its wrong counts: those of older files stay
+abbrev pub whole_word : Amount → List ℕ
+whole_word a = if a.bad == 0 then if a.miscounted == 0 then codes "clean" else codes "miscounted" else codes "damaged"
 
 -- how many items a repair would keep
 abbrev pub kept_text : ℕ → List ℕ
@@ -31,7 +38,7 @@ cut_text cut = decimal cut ++ codes " bytes bad"
 -- a text says what was found
 abbrev pub IsFindingText : Finding → List ℕ → Type 0
 IsFindingText Absent text = text ≡ codes "no such log"
-IsFindingText (Clean a) text = text ≡ amount_text a ++ codes " " ++ whole_word a.bad
+IsFindingText (Clean a) text = text ≡ amount_text a ++ codes " " ++ whole_word a
 IsFindingText (Torn a file kept cut) text = text ≡ amount_text a ++ kept_text kept ++ cut_text cut
 IsFindingText (Refused refusal) text = text ≡ codes "refused: " ++ refusal_text refusal
 IsFindingText (Unread file) text = text ≡ codes "cannot read " ++ printed_file file

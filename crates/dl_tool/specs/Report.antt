@@ -1,5 +1,5 @@
 -- The report on the logs of a folder.
-use Rattle.std.specs.Prelude.{◌≡◌, ◌==◌, ℕ, List, [], ◌∷◌, ◌++◌, Bool, true, false, IsTrue, Option}
+use Rattle.std.specs.Prelude.{◌≡◌, ◌==◌, ℕ, List, [], ◌∷◌, ◌++◌, ◌&&◌, Bool, true, false, IsTrue, Option}
 use Rattle.std.specs.List.{list_all, list_any}
 use Rattle.std.specs.Io.KnownBytes.{Appends}
 use Rattle.dl_types.specs.FileName.{Content}
@@ -23,10 +23,10 @@ is_opened (finding.Torn a file kept cut) = false
 is_opened (finding.Refused refused) = false
 is_opened (finding.Unread file) = false
 
--- and none of its files has bad bytes
+-- and none of its files has bad bytes or a wrong count
 abbrev pub is_clean : Finding → Bool
 is_clean finding.Absent = false
-is_clean (finding.Clean a) = a.bad == 0
+is_clean (finding.Clean a) = (a.bad == 0) && (a.miscounted == 0)
 is_clean (finding.Torn a file kept cut) = false
 is_clean (finding.Refused refused) = false
 is_clean (finding.Unread file) = false

@@ -26,24 +26,24 @@ amount_in (Unread file) = None
 
 -- how much a log adds to a total
 abbrev pub share_of : Option Amount → Amount
-share_of None = record { files = 0; items = 0; bytes = 0; bad = 0; stored = None }
+share_of None = record { files = 0; items = 0; bytes = 0; bad = 0; miscounted = 0; stored = None }
 share_of (Some a) = a
 
 -- how much there is with one log more
 abbrev pub total_with : Amount → Amount → Amount
-total_with t a = record { files = capped (t.files + a.files); items = capped (t.items + a.items); bytes = capped (t.bytes + a.bytes); bad = capped (t.bad + a.bad); stored = t.stored }
+total_with t a = record { files = capped (t.files + a.files); items = capped (t.items + a.items); bytes = capped (t.bytes + a.bytes); bad = capped (t.bad + a.bad); miscounted = capped (t.miscounted + a.miscounted); stored = t.stored }
 
 -- the sum of a number over these logs
 abbrev pub sum_over : (Amount → ℕ) → List Row → ℕ
 sum_over part rows = capped (sum_by (λ r. part (share_of (amount_in r.found))) rows)
 
 abbrev pub total_of : List Row → Amount
-total_of rows = record { files = sum_over (λ a. a.files) rows; items = sum_over (λ a. a.items) rows; bytes = sum_over (λ a. a.bytes) rows; bad = sum_over (λ a. a.bad) rows; stored = None }
+total_of rows = record { files = sum_over (λ a. a.files) rows; items = sum_over (λ a. a.items) rows; bytes = sum_over (λ a. a.bytes) rows; bad = sum_over (λ a. a.bad) rows; miscounted = sum_over (λ a. a.miscounted) rows; stored = None }
 
 -- ---- the cells
 abbrev pub state_word : Finding → List ℕ
 state_word Absent = codes "no such log"
-state_word (Clean a) = whole_word a.bad
+state_word (Clean a) = whole_word a
 state_word (Torn a file kept cut) = codes "needs repair"
 state_word (Refused refused) = codes "refused"
 state_word (Unread file) = codes "unread"

@@ -4,7 +4,7 @@ ghost use Rattle.std.specs.Io.KnownBytes.{Appends};
 ghost use Rattle.std.specs.Fmt.{decimal};
 ghost use Rattle.dl_types.specs.Name.{base_text};
 ghost use Rattle.dl_types.specs.Printed.{characters_of, printed_file, refusal_text, kind_word};
-ghost use Rattle.dl_tool.specs.About.{field, log_fields, size_field, count_fields, amount_fields, state_field, keeps_text, repair_text, IsStateText, IsInfo};
+ghost use Rattle.dl_tool.specs.About.{field, log_fields, size_field, count_fields, miscount_field, amount_fields, state_field, keeps_text, repair_text, IsStateText, IsInfo};
 ghost use Rattle.dl_tool.specs.Report.{FindsLog};
 
 use crate::check::check_log;
@@ -78,7 +78,7 @@ fn push_found<A: Allocator>(text: &mut Vec<u8, A>, found: Finding) -> Result<(),
         Finding::Absent => push_state(text, "no such log"),
         Finding::Clean(amount) => {
             push_amount(text, amount)?;
-            push_state(text, whole_word(amount.bad))
+            push_state(text, whole_word(amount))
         }
         Finding::Torn {
             amount,
@@ -106,7 +106,18 @@ fn push_amount<A: Allocator>(text: &mut Vec<u8, A>, amount: Amount) -> Result<()
     ensures { OnOk result (text.new.items ≡ text.old.items ++ amount_fields amount) }
 {
     push_size(text, amount.stored)?;
-    push_counts(text, amount)
+    push_counts(text, amount)?;
+    push_miscount(text, amount.miscounted)
+}
+
+// Adds the line of how many files have a wrong count, if any has.
+fn push_miscount<A: Allocator>(text: &mut Vec<u8, A>, miscounted: u64) -> Result<(), AllocError>
+    ensures { OnOk result (text.new.items ≡ text.old.items ++ miscount_field miscounted) }
+{
+    if miscounted == 0 {
+        return Ok(());
+    }
+    push_number(text, "miscounted", miscounted)
 }
 
 // Adds the line of the size that is stored: a halt log stores none.

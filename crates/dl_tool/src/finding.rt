@@ -13,6 +13,8 @@ pub struct Amount {
     pub bytes: u64,
     /// The bytes in all files that are no item's.
     pub bad: u64,
+    /// The files but for the last one that are marked as whole and count another number of items than they have.
+    pub miscounted: u64,
     /// The size that the log stores. A halt log stores none.
     pub stored: Option<Size>,
 }

@@ -1,7 +1,7 @@
 // What is found of a log, as a JSON object.
 ghost use Rattle.std.specs.Prelude.{◌≡◌, ◌++◌, List, ℕ, OnOk, codes};
 ghost use Rattle.dl_types.specs.Printed.{printed_file, refusal_text};
-ghost use Rattle.dl_tool.specs.Json.{json_log, json_size, json_state, json_counts, json_amount, json_repair, json_field, json_end, IsJsonText, IsJson};
+ghost use Rattle.dl_tool.specs.Json.{json_log, json_size, json_state, json_counts, json_miscount, json_amount, json_repair, json_field, json_end, IsJsonText, IsJson};
 
 use crate::finding::{Amount, Finding};
 use crate::line::{LogFiles, push_bytes, whole_word};
@@ -45,7 +45,7 @@ fn push_found<A: Allocator>(text: &mut Vec<u8, A>, found: Finding) -> Result<(),
 {
     match found {
         Finding::Absent => push_state(text, "no such log"),
-        Finding::Clean(amount) => push_amount(text, whole_word(amount.bad), amount),
+        Finding::Clean(amount) => push_amount(text, whole_word(amount), amount),
         Finding::Torn {
             amount,
             kept,
@@ -102,7 +102,18 @@ fn push_amount<A: Allocator>(
 {
     push_size(text, amount.stored)?;
     push_state(text, state)?;
-    push_counts(text, amount)
+    push_counts(text, amount)?;
+    push_miscount(text, amount.miscounted)
+}
+
+// Adds how many files have a wrong count, if any has.
+fn push_miscount<A: Allocator>(text: &mut Vec<u8, A>, miscounted: u64) -> Result<(), AllocError>
+    ensures { OnOk result (text.new.items ≡ text.old.items ++ json_miscount miscounted) }
+{
+    if miscounted == 0 {
+        return Ok(());
+    }
+    write!(text, ",\"miscounted\":{miscounted}").map_err(|_| AllocError)
 }
 
 // Adds a log that needs a repair.

@@ -1,7 +1,7 @@
 // What is found of a log, as a line.
 ghost use Rattle.std.specs.Prelude.{◌≡◌, ◌++◌, List, ℕ, OnOk, codes};
 ghost use Rattle.dl_types.specs.Printed.{printed_file, refusal_text};
-ghost use Rattle.dl_tool.specs.Line.{whole_word, log_text, amount_text, kept_text, cut_text, IsFindingText, IsLine};
+ghost use Rattle.dl_tool.specs.Line.{whole_word, log_text, amount_text, counts_text, miscount_text, kept_text, cut_text, IsFindingText, IsLine};
 
 use crate::finding::{Amount, Finding};
 use dl_types::{Base, FileName, Kind, Refusal};
@@ -29,11 +29,19 @@ pub fn push_line<A: Allocator + Copy>(
     push_bytes(text, b"\n")
 }
 
-/// The word of a log that is opened as it is, by its bad bytes, which are those of older files.
-pub fn whole_word(bad: u64) -> &'static str
-    ensures { result.now ≡ whole_word bad }
+/// The word of a log that is opened as it is, by what is wrong of its older files: that they have bad bytes, or count another
+/// number of items than they have.
+pub fn whole_word(amount: Amount) -> &'static str
+    ensures { result.now ≡ whole_word amount }
 {
-    if bad == 0 { "clean" } else { "damaged" }
+    if amount.bad != 0 {
+        return "damaged";
+    }
+    if amount.miscounted == 0 {
+        "clean"
+    } else {
+        "miscounted"
+    }
 }
 
 // Adds a log, and a space.
@@ -70,6 +78,24 @@ fn push_finding<A: Allocator + Copy>(
 fn push_amount<A: Allocator>(text: &mut Vec<u8, A>, amount: Amount) -> Result<(), AllocError>
     ensures { OnOk result (text.new.items ≡ text.old.items ++ amount_text amount) }
 {
+    push_counts(text, amount)?;
+    push_miscount(text, amount.miscounted)
+}
+
+// Adds how many files have a wrong count, if any has.
+fn push_miscount<A: Allocator>(text: &mut Vec<u8, A>, miscounted: u64) -> Result<(), AllocError>
+    ensures { OnOk result (text.new.items ≡ text.old.items ++ miscount_text miscounted) }
+{
+    if miscounted == 0 {
+        return Ok(());
+    }
+    write!(text, " miscounted={miscounted}").map_err(|_| AllocError)
+}
+
+// Adds how many files, items and bytes a log has.
+fn push_counts<A: Allocator>(text: &mut Vec<u8, A>, amount: Amount) -> Result<(), AllocError>
+    ensures { OnOk result (text.new.items ≡ text.old.items ++ counts_text amount) }
+{
     let Amount {
         files,
         items,
@@ -80,13 +106,13 @@ fn push_amount<A: Allocator>(text: &mut Vec<u8, A>, amount: Amount) -> Result<()
     write!(text, "files={files} items={items} bytes={bytes} bad={bad}").map_err(|_| AllocError)
 }
 
-// Adds how much a log has that is opened as it is, and whether some of its bytes are bad.
+// Adds how much a log has that is opened as it is, and whether something is wrong of its older files.
 fn push_clean<A: Allocator>(text: &mut Vec<u8, A>, amount: Amount) -> Result<(), AllocError>
-    ensures { OnOk result (text.new.items ≡ text.old.items ++ (amount_text amount ++ codes " " ++ whole_word amount.bad)) }
+    ensures { OnOk result (text.new.items ≡ text.old.items ++ (amount_text amount ++ codes " " ++ whole_word amount)) }
 {
     push_amount(text, amount)?;
     push_bytes(text, b" ")?;
-    push_bytes(text, whole_word(amount.bad).as_bytes())
+    push_bytes(text, whole_word(amount).as_bytes())
 }
 
 // Adds how much a log has, and what a repair would do.

@@ -20,7 +20,7 @@ use thiserror::Error;
 /// How logs stand, all in all.
 #[derive(Clone, Copy, Debug, PartialEq, Eq)]
 pub enum Health {
-    /// Each is clean: it is opened as it is, and no file has bad bytes.
+    /// Each is clean: it is opened as it is, and no file has bad bytes or a wrong count.
     Clean,
     /// Some log is not, or is not there.
     Unclean,
@@ -136,12 +136,12 @@ pub fn health_by(tally: Tally) -> Health
     }
 }
 
-// Whether a log is opened as it is, with no bad bytes.
+// Whether a log is opened as it is, with no bad bytes and no wrong count.
 fn is_clean(found: Finding) -> bool
     ensures { result ≡ is_clean found }
 {
     match found {
-        Finding::Clean(amount) => amount.bad == 0,
+        Finding::Clean(amount) => amount.bad == 0 && amount.miscounted == 0,
         _ => false,
     }
 }

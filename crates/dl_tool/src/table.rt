@@ -67,6 +67,7 @@ fn total_with(total: Amount, share: Amount) -> Amount
         items: total.items.saturating_add(share.items),
         bytes: total.bytes.saturating_add(share.bytes),
         bad: total.bad.saturating_add(share.bad),
+        miscounted: total.miscounted.saturating_add(share.miscounted),
         stored: total.stored,
     }
 }
@@ -82,6 +83,7 @@ fn share_of(amount: Option<Amount>) -> Amount
             items: 0,
             bytes: 0,
             bad: 0,
+            miscounted: 0,
             stored: None,
         },
     }
@@ -201,7 +203,7 @@ fn state_word(found: Finding) -> &'static str
 {
     match found {
         Finding::Absent => "no such log",
-        Finding::Clean(amount) => whole_word(amount.bad),
+        Finding::Clean(amount) => whole_word(amount),
         Finding::Torn { .. } => "needs repair",
         Finding::Refused(_) => "refused",
         Finding::Unread(_) => "unread",
