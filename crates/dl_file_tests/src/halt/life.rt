@@ -16,6 +16,18 @@ const DAMAGED: &[u8] =
 const WHOLE: &[u8] =
     b"RDL1SHUT\0\0\0\0\0\0\0\x07\0\0\0\x01\xd1\x5c\x10\x60p\0\0\0\x02\xd1\x5c\x10\x60qq";
 
+// The same items in a file of the second layout that was left open, whatever its count says, then these five bytes.
+const DAMAGED_2: &[u8] =
+    b"RDL2OPEN\0\0\0\0\0\0\0\x07\0\0\0\0\0\0\0\x09\0\0\0\x01\xd1\x5c\x10\x60p\0\0\0\x02\xd1\x5c\x10\x60qq\0\0\0\x03\xd1";
+
+// The same without these five, and marked as whole with a count of 3.
+const MISCOUNTED: &[u8] =
+    b"RDL2SHUT\0\0\0\0\0\0\0\x07\0\0\0\0\0\0\0\x03\0\0\0\x01\xd1\x5c\x10\x60p\0\0\0\x02\xd1\x5c\x10\x60qq";
+
+// The same with a count of 2.
+const WHOLE_2: &[u8] =
+    b"RDL2SHUT\0\0\0\0\0\0\0\x07\0\0\0\0\0\0\0\x02\0\0\0\x01\xd1\x5c\x10\x60p\0\0\0\x02\xd1\x5c\x10\x60qq";
+
 const P: Filled = Filled {
     byte: b'p',
     count: 1,
@@ -41,11 +53,16 @@ fn filled(byte: u8, count: usize) -> Filled {
     Filled { byte, count }
 }
 
+// A disk whose file of the log has these bytes.
+fn disk_with(alloc: Global, text: &[u8]) -> Result<MemoryDisk, Fail> {
+    let mut disk = MemoryDisk::new(alloc);
+    disk.set(file()?, text.to_vec(alloc)?)?;
+    Ok(disk)
+}
+
 // A disk with the damaged file.
 fn damaged(alloc: Global) -> Result<MemoryDisk, Fail> {
-    let mut disk = MemoryDisk::new(alloc);
-    disk.set(file()?, DAMAGED.to_vec(alloc)?)?;
-    Ok(disk)
+    disk_with(alloc, DAMAGED)
 }
 
 // The log that is opened, and what a repair found.
@@ -74,7 +91,7 @@ fn adds(
     Ok(is_right)
 }
 
-// Fills a log of at most 50 bytes: 34 of them, then an item too many, and then one that would fit.
+// Fills a log of at most 58 bytes: 42 of them, then an item too many, and then one that would fit.
 fn fills(alloc: Global, rig: &mut Rig<MemoryDisk>) -> Result<bool, Fail> {
     let rows = [
         (b'a', 10, Some(1), false),
@@ -82,9 +99,9 @@ fn fills(alloc: Global, rig: &mut Rig<MemoryDisk>) -> Result<bool, Fail> {
         (b'c', 1, Some(0), true),
     ];
     let first = adds(alloc, rig, &rows)?;
-    let larger = rig.change_size(60) == Ok(()) && !rig.is_full();
+    let larger = rig.change_size(68) == Ok(()) && !rig.is_full();
     let second = adds(alloc, rig, &[(b'c', 1, Some(1), false)])?;
-    let smaller = rig.change_size(42) == Err(43) && rig.change_size(43) == Ok(());
+    let smaller = rig.change_size(50) == Err(51) && rig.change_size(51) == Ok(());
     let third = adds(alloc, rig, &[(b'd', 0, Some(0), true)])?;
     let items = rig.has(alloc, &[filled(b'a', 10), filled(b'c', 1)]);
     Ok(first && larger && second && smaller && third && items)
@@ -92,7 +109,7 @@ fn fills(alloc: Global, rig: &mut Rig<MemoryDisk>) -> Result<bool, Fail> {
 
 // The same for a log that is begun.
 fn fills_a_new_log(alloc: Global) -> Result<bool, Fail> {
-    let (mut rig, _) = open(alloc, MemoryDisk::new(alloc), Asked::limited(50))?;
+    let (mut rig, _) = open(alloc, MemoryDisk::new(alloc), Asked::limited(58))?;
     fills(alloc, &mut rig)
 }
 
@@ -108,25 +125,28 @@ fn is_text(disk: &MemoryDisk, text: &[u8]) -> Result<bool, Fail> {
 }
 
 // Closes the log of a repaired file. Returns whether it had the items, and its file has the bytes, that a repair is to leave.
-fn is_repaired(
-    alloc: Global,
-    rig: &mut Rig<MemoryDisk>,
-    told: Option<(u64, u64)>,
-) -> Result<bool, Fail> {
+fn is_repaired(alloc: Global, rig: &mut Rig<MemoryDisk>, whole: &[u8]) -> Result<bool, Fail> {
     let items = rig.has(alloc, &[P, QQ]) && rig.generation() == 7;
-    let is_whole = rig.close() && is_text(rig.disk(), WHOLE)?;
-    Ok(told == Some((2, 5)) && items && is_whole)
+    let is_whole = rig.close() && is_text(rig.disk(), whole)?;
+    Ok(items && is_whole)
 }
 
-// Repairs the damaged file and closes it.
-fn repairs(alloc: Global) -> Result<bool, Fail> {
-    let (mut rig, told) = open(alloc, damaged(alloc)?, Asked::limited(99))?;
-    is_repaired(alloc, &mut rig, told)
+// Repairs a file that has so many bad bytes, and closes it.
+fn repairs(alloc: Global, text: &[u8], bad: u64, whole: &[u8]) -> Result<bool, Fail> {
+    let (mut rig, told) = open(alloc, disk_with(alloc, text)?, Asked::limited(99))?;
+    Ok(is_repaired(alloc, &mut rig, whole)? && told == Some((2, bad)))
 }
 
 #[test]
 fn a_torn_file_is_repaired_and_closed(rt: HostRuntime) -> Result<(), Fail> {
-    assert!(rt; repairs(rt.alloc())?);
+    assert!(rt; repairs(rt.alloc(), DAMAGED, 5, WHOLE)?);
+    Ok(())
+}
+
+#[test]
+fn a_file_of_the_second_layout_is_repaired_and_counted(rt: HostRuntime) -> Result<(), Fail> {
+    assert!(rt; repairs(rt.alloc(), DAMAGED_2, 5, WHOLE_2)?);
+    assert!(rt; repairs(rt.alloc(), MISCOUNTED, 0, WHOLE_2)?);
     Ok(())
 }
 
