@@ -1,5 +1,5 @@
 """The files of a folder, as the calls that a trace tells have left them, and which of them are durable."""
-from texts import HEAD, read_index, read_item_file
+from texts import COUNT, MARK, head_length, read_index, read_item_file
 
 
 class Inode:
@@ -88,9 +88,16 @@ class Folder:
         data = self.opened[call.descriptor].data
         if at > len(data):
             self.wrong.append(f"a write past the end: {call.title()}")
-        if at >= HEAD and data[4:8] != b"OPEN":
+        length = head_length(data)
+        if at >= length and data[4:8] != b"OPEN":
             self.wrong.append(f"bytes behind a mark that is not OPEN: {call.title()}")
+        parts = (MARK, COUNT) if COUNT[0] < length else (MARK,)
+        if at < length and (at, len(call.data)) not in parts:
+            self.wrong.append(f"a write into a head that is neither its mark nor its count: {call.title()}")
         data[at : at + call.answer] = call.data[: call.answer]
+        read = read_item_file(bytes(data))
+        if read is not None and read.miscounted:
+            self.wrong.append(f"marked as whole with a wrong count: {call.title()}")
         self.dirty.add(call.files[0])
         self.written.add(call.files[0])
         if call.answer < len(call.data):

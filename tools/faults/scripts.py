@@ -133,21 +133,26 @@ class Maker:
         lines = [self.next(pick.choice(names)) for _ in range(pick.randint(15, 45))]
         return Script(lines + self.end(names, blocks), len(lines), blocks, texts)
 
+    def old_file(self, at, age, mark):
+        """A file of either layout, now and then with a wrong count."""
+        items = [f"old{at}{n}".encode() for n in range(self.pick.randint(0, 3))]
+        return head(age, mark, self.pick.choice((1, 2)), len(items) + self.pick.choice((0, 0, 0, 1))) + frames(items)
+
     def old(self, name, kind):
         """The files of a log that was closed, or of one that a stop left."""
         pick = self.pick
         mark = pick.choice((b"OPEN", b"SHUT"))
         bad = pick.choice((b"", b"", b"\0\0\0\5torn"))
-        made = lambda at: frames([f"old{at}{n}".encode() for n in range(pick.randint(0, 3))])
         if kind == "halt":
-            return {f"{name}.log": head(5, mark) + made(0) + bad}
+            return {f"{name}.log": self.old_file(0, 5, mark) + bad}
         count = pick.randint(1, 3)
         entries = [(at + 1, at + 3) for at in range(count)]
-        files = {f"{name}.{at}": head(age, b"SHUT" if at < count else mark) + made(at) for at, age in entries}
+        files = {f"{name}.{at}": self.old_file(at, age, b"SHUT" if at < count else mark) for at, age in entries}
         last = f"{name}.{count}"
         if count > 1 and pick.random() < 0.2:
             files[f"{name}.1"] += b"bad"
-        files[last] = pick.choice((files[last], files[last] + bad, files[last][:9], None, head(1)))
+        cut = files[last][: pick.choice((9, 20))]
+        files[last] = pick.choice((files[last], files[last] + bad, cut, None, head(1, layout=pick.choice((1, 2)))))
         texts = {file: text for file, text in files.items() if text is not None}
         size = pick.choice((40, 100))
         self.sizes[name] = f"{size}x3"

@@ -2,7 +2,7 @@
 import os
 from dataclasses import replace
 
-from texts import HEAD, Index, found_log, frames, head, read_index, read_item_file
+from texts import HEADS, Index, file_of, found_log, frames, head, read_index, read_item_file
 
 
 def is_index_right(log, texts):
@@ -11,10 +11,9 @@ def is_index_right(log, texts):
 
 
 def is_whole(log, file, texts):
-    """Whether an older file has all its items, and is marked as one that takes no more."""
+    """Whether an older file has all its items and their count, and is marked as one that takes no more."""
     read = read_item_file(texts.get(log.file_name(file.number), b""))
-    wanted = (b"SHUT", file.generation, file.items, file.bad)
-    return read is not None and (read.mark, read.generation, read.items, read.bad) == wanted
+    return read is not None and read.mark == b"SHUT" and file_of(file.number, read) == file
 
 
 def waiting(log, texts):
@@ -22,14 +21,14 @@ def waiting(log, texts):
     still has to be begun count too. Of a file with bytes of a write that was cut off it may be more."""
     name, file = log.current_name(), log.current()
     text = texts.get(name, b"")
-    whole = head(file.generation) + file.stream()
+    length, whole = HEADS[file.layout], head(file.generation, layout=file.layout) + file.stream()
     read = read_item_file(text)
-    if read is None or read.generation != file.generation:
+    if read is None or (read.generation, read.layout) != (file.generation, file.layout):
         return len(whole) if log.owed else None
     log.owed = False
     written = len(text)
-    if not whole[HEAD:].startswith(text[HEAD:]):
-        written = len(os.path.commonprefix([text[HEAD:], whole[HEAD:]])) + HEAD
+    if not whole[length:].startswith(text[length:]):
+        written = len(os.path.commonprefix([text[length:], whole[length:]])) + length
     if written < len(text) and name not in texts.torn:
         return None
     return len(whole) - written
@@ -37,7 +36,7 @@ def waiting(log, texts):
 
 def beginning(log):
     """The size of the text with which the current file begins."""
-    return HEAD + len(frames(log.current().items[: log.lead]))
+    return HEADS[log.current().layout] + len(frames(log.current().items[: log.lead]))
 
 
 def oldest_waiting(log, texts):
@@ -46,7 +45,7 @@ def oldest_waiting(log, texts):
     size = log.current().size()
     left = waiting(log, texts)
     end = beginning(log) if log.owed else size - left
-    at = HEAD
+    at = HEADS[log.current().layout]
     for item, age in zip(log.current().items, log.ages):
         at += 8 + len(item)
         if at > end:
@@ -87,7 +86,7 @@ def why_not_moved(log, base, texts):
     names = [name for name in texts if name.split(".")[0] in (log.base, base)]
     read = {name: read_item_file(texts[name]) for name in names}
     for file in log.files:
-        if not any(it and (it.generation, it.items, it.bad) == (file.generation, file.items, file.bad) for it in read.values()):
+        if not any(it and file_of(file.number, it) == file for it in read.values()):
             return f"the items of generation {file.generation} of {log.name} are neither at {log.base} nor at {base}"
     return None
 
@@ -113,8 +112,8 @@ def why_not_kept(words, before, after):
         return None if is_same else f"files under {base} have changed"
     if is_begun:
         return None
-    kept = [(file.number, file.generation, file.items) for file in found.files]
-    if found.refusal or kept != [(file.number, file.generation, file.items) for file in was.files] or found.size != was.size:
+    kept, known = ([(it.number, it.generation, it.layout, it.items) for it in files] for files in (found.files, was.files))
+    if found.refusal or kept != known or found.size != was.size:
         return f"items under {base} have changed"
     return None
 

@@ -3,8 +3,8 @@
 
 -export([read/1, base_of/1, wire_name/1, to_wire/1, from_wire/1]).
 
-%% A file of dlog begins with 16 bytes and one of disk_log with 8; an item takes as many in both.
--define(MORE_BYTES, 8).
+%% A file of dlog begins with 24 bytes and one of disk_log with 8; an item takes as many in both.
+-define(MORE_BYTES, 16).
 -define(LONGEST, 64).
 
 %% The options as a map, with what is not given as disk_log takes it.
