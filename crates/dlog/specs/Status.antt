@@ -1,5 +1,5 @@
 -- The statuses that the program ends with.
-use Rattle.std.specs.Prelude.{◌==◌, if◌then◌else◌, ℕ, Bool, true, false, List, [], ◌∷◌, Option, Some, None, Result, Ok, Err}
+use Rattle.std.specs.Prelude.{◌==◌, ◌&&◌, if◌then◌else◌, ℕ, Bool, true, false, List, [], ◌∷◌, Option, Some, None, Result, Ok, Err}
 use Rattle.dl_tool.specs.declared.finding.Finding.{Finding}
 use Rattle.dl_tool.specs.declared.finding.Finding.TheVariants as finding
 use Rattle.dl_tool.specs.declared.report.Health.{Health}
@@ -38,7 +38,7 @@ settled_status (Ok true) = 0
 settled_status (Ok false) = 1
 settled_status (Err fault) = status_of fault
 
--- how logs stand: 0 if all are clean, 1 if one is not, or has bad bytes, and 3 if one could not be read
+-- how logs stand: 0 if all are clean, 1 if one is not, or has bad bytes or a wrong count, and 3 if one could not be read
 abbrev pub health_status : Health → ℕ
 health_status Clean = 0
 health_status Unclean = 1
@@ -47,7 +47,7 @@ health_status Unread = 3
 -- the same for one log
 abbrev pub finding_status : Finding → ℕ
 finding_status finding.Absent = 1
-finding_status (finding.Clean amount) = if amount.bad == 0 then 0 else 1
+finding_status (finding.Clean amount) = if (amount.bad == 0) && (amount.miscounted == 0) then 0 else 1
 finding_status (finding.Torn amount file kept cut) = 1
 finding_status (finding.Refused refusal) = 1
 finding_status (finding.Unread file) = 3
