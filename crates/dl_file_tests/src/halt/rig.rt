@@ -70,7 +70,7 @@ fn opened<D: Disk>(
     ensures { IfOk result (λ opened. IfOk opened (λ o. IsReady (D.state disk.new) cache.new o.files.file)) }
 {
     disk.know(base)?;
-    let chain = cache.open_chain()?;
+    let chain = cache.open_chain(None)?;
     let size = match asked.size {
         Size::Infinity => Size::Infinity,
         limited => Size::Limit(limited.limit().min(100_000)),
