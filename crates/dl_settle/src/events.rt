@@ -72,6 +72,7 @@ fn same_args<A: Allocator>(a: &OpenArgs<A>, b: &OpenArgs<A>) -> bool
         && same_head(&a.head, &b.head)
         && a.notify == b.notify
         && a.link == b.link
+        && same_hold(a.hold, b.hold)
 }
 
 // Whether two opens ask for the same base.
@@ -91,6 +92,17 @@ fn same_size(a: Option<Size>, b: Option<Size>) -> bool
 {
     match (a, b) {
         (Some(size), Some(other)) => size == other,
+        (None, None) => true,
+        _ => false,
+    }
+}
+
+/// Whether two logs are held to the same number of blocks.
+pub(crate) fn same_hold(a: Option<u32>, b: Option<u32>) -> bool
+    ensures { IsTrue result ↔ (a ≡ b) }
+{
+    match (a, b) {
+        (Some(blocks), Some(other)) => blocks == other,
         (None, None) => true,
         _ => false,
     }

@@ -1,7 +1,7 @@
 // Whether two replies are the same.
 ghost use Rattle.std.specs.Prelude.{◌≡◌, ◌↔◌, IsTrue};
 
-use crate::events::{same_head, same_list};
+use crate::events::{same_head, same_hold, same_list};
 use dl_types::{Extent, Info, Overflows, Owner, Refusal, Reply, Writing};
 use std::alloc::Allocator;
 
@@ -119,7 +119,10 @@ fn same_writing<A: Allocator>(a: &Option<Writing<A>>, b: &Option<Writing<A>>) ->
 {
     match (a, b) {
         (Some(a), Some(b)) => {
-            same_head(&a.head, &b.head) && a.written == b.written && same_extent(a.extent, b.extent)
+            same_head(&a.head, &b.head)
+                && a.written == b.written
+                && same_extent(a.extent, b.extent)
+                && same_hold(a.hold, b.hold)
         }
         (None, None) => true,
         _ => false,
