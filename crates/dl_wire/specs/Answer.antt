@@ -34,6 +34,7 @@ argument_code argument.Item = 5
 argument_code argument.Count = 6
 argument_code argument.Continuation = 7
 argument_code argument.Blocks = 8
+argument_code argument.Hold = 9
 
 -- which of a base's files
 abbrev pub part_text : Part → List ℕ
@@ -124,8 +125,9 @@ abbrev pub notice_text : Told → List ℕ
 notice_text told = u32_text 0 ++ (128 ∷ (u32_text told.client.0 ++ (short_text (name_text told.log) ++ said_text told.notice)))
 
 module _ {Z : Type 0} where
+  -- the head item, the items that were logged, how far the files have come, and the most blocks that may wait
   abbrev pub writing_text : Writing Z → List ℕ
-  writing_text w = option_text bytes_text w.head ++ (u64_text w.written ++ extent_text w.extent)
+  writing_text w = option_text bytes_text w.head ++ (u64_text w.written ++ (extent_text w.extent ++ option_text u32_text w.hold))
 
   -- a log's name, base, kind, size and mode
   abbrev pub settings_text : Info Z → List ℕ

@@ -84,7 +84,8 @@ module _ {Z : Type 0} where
     head ← option_at item_at repair.1
     notify ← choice_at bools head.1
     link ← choice_at links notify.1
-    Ok (record { base = base.0; kind = kind.0; size = size.0; mode = mode.0; repair = repair.0; head = head.0; notify = notify.0; link = link.0 }, link.1)
+    hold ← option_at (number_at w32) link.1
+    Ok (record { base = base.0; kind = kind.0; size = size.0; mode = mode.0; repair = repair.0; head = head.0; notify = notify.0; link = link.0; hold = hold.0 }, hold.1)
 
   -- the parts of a call on the log of this name
   unfoldable pub call_at : Verb → Name → List ℕ → Read (Call Z)

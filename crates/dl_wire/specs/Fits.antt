@@ -49,6 +49,7 @@ module _ {Z : Type 0} where
     pub base : IfSome args.base IsBase
     pub size : IfSome args.size IsSize
     pub head : IfSome args.head IsItem
+    pub hold : IfSome args.hold (λ n. n < 2 ^ 32)
 
   -- a call on the log of this name
   abbrev pub IsCall : Name → Call Z → Type 0

@@ -21,7 +21,9 @@ module _ {Z : Type 0} where
       ++ (mode_code args.mode
       ∷ repair_code args.repair
       ∷ (option_text bytes_text args.head
-      ++ (bool_code args.notify ∷ link_code args.link ∷ [])))))
+      ++ (bool_code args.notify
+      ∷ link_code args.link
+      ∷ option_text u32_text args.hold)))))
 
   -- the number of a call
   abbrev pub call_code : Call Z → ℕ

@@ -11,7 +11,7 @@ use crate::fault::{DecodeFault, ReadFault};
 use crate::op::{Op, Verb};
 use crate::reading::{
     base_at, choice_at, i32_at, list_at, name_at, size_at, some_base_at, some_item_at,
-    some_size_at, u16_at, u32_at, u64_at,
+    some_size_at, some_u32_at, u16_at, u32_at, u64_at,
 };
 use crate::request::{Ask, Request};
 use dl_types::{
@@ -195,6 +195,7 @@ fn open_at<A: Allocator + Copy>(alloc: A, bytes: &[u8]) -> Result<(OpenArgs<A>, 
     let (head, rest) = some_item_at(alloc, rest)?;
     let (notify, rest) = choice_at(&[false, true], rest)?;
     let (link, rest) = choice_at(&[Link::Owner, Link::Anonymous], rest)?;
+    let (hold, rest) = some_u32_at(rest)?;
     let args = OpenArgs {
         base,
         kind,
@@ -204,6 +205,7 @@ fn open_at<A: Allocator + Copy>(alloc: A, bytes: &[u8]) -> Result<(OpenArgs<A>, 
         head,
         notify,
         link,
+        hold,
     };
     Ok((args, rest))
 }

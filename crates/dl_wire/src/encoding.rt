@@ -11,7 +11,7 @@ use crate::frame::end;
 use crate::request::{Ask, Request};
 use crate::writing::{
     bool_code, kind_code, mode_code, push_base, push_items, push_name, push_position, push_size,
-    push_some_item, push_u16, push_u32, push_u64,
+    push_some_item, push_some_u32, push_u16, push_u32, push_u64,
 };
 use dl_types::{Base, Call, ClientId, Event, Link, Name, OpenArgs, Place, Repair, Size};
 use std::alloc::{AllocError, Allocator};
@@ -98,6 +98,7 @@ fn push_open<A: Allocator>(out: &mut Vec<u8, A>, args: &OpenArgs<A>) -> Result<(
     push_some_item(out, &args.head)?;
     out.push(bool_code(args.notify))?;
     out.push(link_code(args.link))?;
+    push_some_u32(out, args.hold)?;
     Ok(())
 }
 

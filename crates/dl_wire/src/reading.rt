@@ -31,6 +31,22 @@ pub fn u32_at(bytes: &[u8]) -> Result<(u32, &[u8]), ReadFault>
     Ok((number, rest))
 }
 
+/// A number of four bytes that may be missing.
+#[tactic(auto, unfolding(crate::specs::Reading::option_at))]
+pub fn some_u32_at(bytes: &[u8]) -> Result<(Option<u32>, &[u8]), ReadFault>
+    ensures { Gives (λ x. (x.0, x.1.now)) result (option_at (number_at w32) bytes.now) }
+{
+    match bytes {
+        [] => Err(ReadFault::Left(0)),
+        [0, rest @ ..] => Ok((None, rest)),
+        [1, rest @ ..] => {
+            let (number, rest) = u32_at(rest)?;
+            Ok((Some(number), rest))
+        }
+        [_, ..] => Err(ReadFault::Left(bytes.len())),
+    }
+}
+
 /// A number of eight bytes.
 pub fn u64_at(bytes: &[u8]) -> Result<(u64, &[u8]), ReadFault>
     ensures { Gives (λ x. (x.0, x.1.now)) result (number_at w64 bytes.now) }

@@ -20,6 +20,7 @@ fn argument_code(argument: Argument) -> u8
         Argument::Count => 6,
         Argument::Continuation => 7,
         Argument::Blocks => 8,
+        Argument::Hold => 9,
     }
 }
 

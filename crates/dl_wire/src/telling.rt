@@ -8,7 +8,7 @@ use crate::fault::EncodeFault;
 use crate::refusing::push_refusal;
 use crate::writing::{
     bool_code, kind_code, mode_code, push_base, push_count, push_items, push_name, push_size,
-    push_some_item, push_u32, push_u64,
+    push_some_item, push_some_u32, push_u32, push_u64,
 };
 use dl_types::{Change, Extent, Info, Notice, Owner, Status, Writing};
 use std::alloc::{AllocError, Allocator};
@@ -77,7 +77,8 @@ fn push_writing<A: Allocator>(
             out.push(1)?;
             push_some_item(out, &writing.head)?;
             push_u64(out, writing.written)?;
-            push_extent(out, writing.extent)
+            push_extent(out, writing.extent)?;
+            push_some_u32(out, writing.hold)
         }
     }
 }

@@ -62,6 +62,23 @@ pub fn push_u64<A: Allocator>(out: &mut Vec<u8, A>, number: u64) -> Result<(), A
     Ok(())
 }
 
+/// A number of four bytes that may be missing.
+pub fn push_some_u32<A: Allocator>(
+    out: &mut Vec<u8, A>,
+    number: Option<u32>,
+) -> Result<(), AllocError>
+    ensures { OnOk result (out.new.items ≡ out.old.items ++ option_text u32_text number) }
+{
+    match number {
+        None => out.push(0)?,
+        Some(number) => {
+            out.push(1)?;
+            push_u32(out, number)?;
+        }
+    }
+    Ok(())
+}
+
 // A text of fewer than 256 bytes after its length.
 fn push_short<A: Allocator>(out: &mut Vec<u8, A>, text: &[u8]) -> Result<(), AllocError>
     requires { length text.now < 2 ^ 8 }
