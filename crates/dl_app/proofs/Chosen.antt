@@ -41,6 +41,7 @@ set_by all (setting.Repair x) (setting.Repair y) = refl
 set_by all (setting.Head x) (setting.Head y) = refl
 set_by all (setting.Notify x) (setting.Notify y) = refl
 set_by all (setting.Link x) (setting.Link y) = refl
+set_by all (setting.Hold x) (setting.Hold y) = refl
 set_by all s t = refl
 
 any_set : (all : Settings) (s : Setting) (settings : List Setting)
@@ -78,6 +79,7 @@ none_set (setting.Repair x ∷ settings) = none_set settings
 none_set (setting.Head x ∷ settings) = none_set settings
 none_set (setting.Notify x ∷ settings) = none_set settings
 none_set (setting.Link x ∷ settings) = none_set settings
+none_set (setting.Hold x ∷ settings) = none_set settings
 
 -- ---- the loop over options
 
@@ -121,6 +123,7 @@ set_alike all (setting.Repair x) (setting.Repair y) same = refl
 set_alike all (setting.Head x) (setting.Head y) same = refl
 set_alike all (setting.Notify x) (setting.Notify y) same = refl
 set_alike all (setting.Link x) (setting.Link y) same = refl
+set_alike all (setting.Hold x) (setting.Hold y) same = refl
 set_alike all s t same = let bad : ⊥ = cc in absurd bad
 
 -- options that are not read to their end give nothing

@@ -11,7 +11,7 @@ use Rattle.std.specs.Int.{IsInRange}
 use Rattle.memchr.specs.Find.{IsFirstByte, is_byte}
 use Rattle.dl_types.specs.declared.size.Size.{Size}
 use Rattle.dl_types.specs.declared.size.Size.TheVariants.{Infinity, Limit, Wrap}
-use Rattle.dl_app.specs.Words.{number_in, files_of, WritesSize}
+use Rattle.dl_app.specs.Words.{number_in, small_of, WritesSize}
 use Rattle.dl_lines.proofs.Positions.{is_false}
 use Rattle.dl_app.proofs.Chosen.{both_ways}
 
@@ -78,9 +78,9 @@ none_some o n none some = let bad : ⊥ = cc in bad
 
 -- a word with an `x` writes no size but that of a wrap log
 pub no_wrap : (word before after : List ℕ) → word ≢ codes "inf" → word ≡ before ++ (codes "x" ++ after) → list_any is_x before ≡ false
-    → ((bytes files : ℕ) → number_in before ≡ Some bytes → files_of (number_in after) ≡ Some files → ⊥) → (size : Size) → WritesSize word size → ⊥
+    → ((bytes files : ℕ) → number_in before ≡ Some bytes → small_of (number_in after) ≡ Some files → ⊥) → (size : Size) → WritesSize word size → ⊥
 no_wrap word before after other parts alone none Infinity writes = other writes
 no_wrap word before after other parts alone none (Limit n) writes = both_ways (list_any is_x word) (parts_have word before after parts) (number_alone word n writes)
 no_wrap word before after other parts alone none (Wrap bytes files) writes =
     let alike = parts_alike before after writes.0 writes.1 alone (number_alone writes.0 bytes writes.2) (sym parts ∙ writes.4) in
-    none bytes files (ap number_in alike.0 ∙ writes.2) (ap (λ (text : List ℕ). files_of (number_in text)) alike.1 ∙ writes.3)
+    none bytes files (ap number_in alike.0 ∙ writes.2) (ap (λ (text : List ℕ). small_of (number_in text)) alike.1 ∙ writes.3)

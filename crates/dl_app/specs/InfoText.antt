@@ -74,9 +74,15 @@ head_text None = codes "none"
 head_text (Some []) = codes "-"
 head_text (Some (b ∷ bytes)) = flat_map hex (b ∷ bytes)
 
+-- the most blocks that the log may have, or that there is no such number
+abbrev pub hold_text : Option ℕ → List ℕ
+hold_text None = codes " hold=none"
+hold_text (Some blocks) = codes " hold=" ++ decimal blocks
+
 -- the fields that only a log in read-write mode has
 abbrev pub writing_text : {Z : Type 0} → Writing Z → List ℕ
-writing_text writing = codes " head=" ++ head_text writing.head ++ codes " written=" ++ decimal writing.written ++ extent_text writing.extent
+writing_text writing =
+    codes " head=" ++ head_text writing.head ++ codes " written=" ++ decimal writing.written ++ extent_text writing.extent ++ hold_text writing.hold
 
 abbrev pub more_text : {Z : Type 0} → Option (Writing Z) → List ℕ
 more_text None = []

@@ -1,5 +1,5 @@
 -- The options of an open, and the arguments that they make.
-use Rattle.std.specs.Prelude.{◌≡◌, ℕ, List, [], ◌∷◌, ◌++◌, Bool, true, false, codes, ⊤}
+use Rattle.std.specs.Prelude.{◌≡◌, ℕ, List, [], ◌∷◌, ◌++◌, Bool, true, false, Some, codes, ⊤}
 use Rattle.std.specs.List.{fold, list_any}
 use Rattle.dl_types.specs.declared.size.Link.{Link}
 use Rattle.dl_types.specs.declared.size.Link.TheVariants.{Owner, Anonymous}
@@ -13,7 +13,7 @@ use Rattle.dl_app.specs.declared.options.Setting.TheVariants as setting
 use Rattle.dl_app.specs.declared.options.Settings.{Settings}
 use Rattle.dl_app.specs.Items.{is_item}
 use Rattle.dl_app.specs.Settings.{no_settings, also_set}
-use Rattle.dl_app.specs.Words.{WritesSize}
+use Rattle.dl_app.specs.Words.{number_in, small_of, WritesSize}
 
 -- the word of a mode
 abbrev pub mode_word : Mode → List ℕ
@@ -45,6 +45,7 @@ WritesSetting option (setting.Repair repair) = option ≡ codes "repair=" ++ rep
 WritesSetting option (setting.Head head) = (is_item head.now ≡ true) × (option ≡ codes "head=" ++ head.now)
 WritesSetting option (setting.Notify notify) = option ≡ codes "notify=" ++ notify_word notify
 WritesSetting option (setting.Link link) = option ≡ codes "link=" ++ link_word link
+WritesSetting option (setting.Hold blocks) = (word : List ℕ) × (small_of (number_in word) ≡ Some blocks) × (option ≡ codes "hold=" ++ word)
 
 -- options write these settings, each option one
 abbrev pub WriteSettings : List (List ℕ) → List Setting → Type 0
@@ -62,6 +63,7 @@ is_same_sort (setting.Repair repair) (setting.Repair other) = true
 is_same_sort (setting.Head head) (setting.Head other) = true
 is_same_sort (setting.Notify notify) (setting.Notify other) = true
 is_same_sort (setting.Link link) (setting.Link other) = true
+is_same_sort (setting.Hold blocks) (setting.Hold other) = true
 is_same_sort s t = false
 
 -- no two settings are of one sort

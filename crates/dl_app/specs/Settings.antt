@@ -8,7 +8,7 @@ use Rattle.dl_app.specs.Items.{head_bytes}
 
 -- nothing is set
 abbrev pub no_settings : Settings
-no_settings = record { base = None; size = None; mode = None; repair = None; head = None; notify = None; link = None }
+no_settings = record { base = None; size = None; mode = None; repair = None; head = None; notify = None; link = None; hold = None }
 
 -- a setting of this sort is among them
 abbrev pub is_set : Settings → Setting → Bool
@@ -19,6 +19,7 @@ is_set all (setting.Repair repair) = is_some all.repair
 is_set all (setting.Head head) = is_some all.head
 is_set all (setting.Notify notify) = is_some all.notify
 is_set all (setting.Link link) = is_some all.link
+is_set all (setting.Hold blocks) = is_some all.hold
 
 -- settings and one more
 abbrev pub also_set : Settings → Setting → Settings
@@ -29,8 +30,9 @@ also_set all (setting.Repair repair) = record all { repair = Some repair }
 also_set all (setting.Head head) = record all { head = Some head }
 also_set all (setting.Notify notify) = record all { notify = Some notify }
 also_set all (setting.Link link) = record all { link = Some link }
+also_set all (setting.Hold blocks) = record all { hold = Some blocks }
 
--- arguments of no base, no size and no head item, with these settings
+-- arguments of no base, no size, no head item and no number of blocks, with these settings
 abbrev pub args_of : {Z : Type 0} → Settings → OpenArgs Z → OpenArgs Z
 args_of all args = record {
   base = all.base;
@@ -41,4 +43,5 @@ args_of all args = record {
   head = head_bytes all.head;
   notify = unwrap_or all.notify args.notify;
   link = unwrap_or all.link args.link;
+  hold = all.hold;
 }

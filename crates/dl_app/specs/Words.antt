@@ -48,14 +48,14 @@ abbrev pub step_of : Option ℤ → Option ℤ
 step_of None = None
 step_of (Some n) = if has_32_bits n then Some n else None
 
--- the number of files of a wrap log, if it fits 32 bits
-abbrev pub files_of : Option ℕ → Option ℕ
-files_of None = None
-files_of (Some n) = if nat_lt n (2 ^ 32) then Some n else None
+-- a number, if it fits 32 bits
+abbrev pub small_of : Option ℕ → Option ℕ
+small_of None = None
+small_of (Some n) = if nat_lt n (2 ^ 32) then Some n else None
 
 -- a word writes this size: `inf`, a number, or the bytes of a file, an `x` and the number of files
 abbrev pub WritesSize : List ℕ → Size → Type 0
 WritesSize word Infinity = word ≡ codes "inf"
 WritesSize word (Limit n) = number_in word ≡ Some n
 WritesSize word (Wrap bytes files) =
-    (before : List ℕ) × (after : List ℕ) × (number_in before ≡ Some bytes) × (files_of (number_in after) ≡ Some files) × (word ≡ before ++ (codes "x" ++ after))
+    (before : List ℕ) × (after : List ℕ) × (number_in before ≡ Some bytes) × (small_of (number_in after) ≡ Some files) × (word ≡ before ++ (codes "x" ++ after))

@@ -2,7 +2,7 @@
 ghost use Rattle.std.specs.Prelude.{◌≡◌, ◌++◌, codes, IfErr, OnOk};
 ghost use Rattle.std.specs.Fmt.{decimal};
 ghost use Rattle.std.specs.List.{flat_map};
-ghost use Rattle.dl_app.specs.InfoText.{names_text, form_text, info_text, next_owner_text, owner_text, owners_text, users_text, status_word, head_text, extent_text, files_text, overflows_text, writing_text, more_text, yes_or_no};
+ghost use Rattle.dl_app.specs.InfoText.{names_text, form_text, info_text, next_owner_text, owner_text, owners_text, users_text, status_word, head_text, extent_text, files_text, overflows_text, hold_text, writing_text, more_text, yes_or_no};
 ghost use Rattle.dl_app.specs.Options.{mode_word};
 
 use crate::fault::ScriptFault;
@@ -149,7 +149,8 @@ fn push_writing<A: Allocator>(
     text.extend_from_slice(b" head=")?;
     push_head(text, &writing.head)?;
     push_written(text, writing.written)?;
-    push_extent(text, writing.extent)
+    push_extent(text, writing.extent)?;
+    push_hold(text, writing.hold)
 }
 
 // Adds the head item, or that there is none.
@@ -232,4 +233,15 @@ fn push_overflows<A: Allocator>(
     let since_open = overflows.since_open;
     let since_info = overflows.since_info;
     write!(text, " overflows={since_open},{since_info}").map_err(|_| ScriptFault::OutOfMemory)
+}
+
+// Adds the most blocks that the log may have, or that there is no such number.
+fn push_hold<A: Allocator>(text: &mut Vec<u8, A>, hold: Option<u32>) -> Result<(), ScriptFault>
+    ensures text { OnOk result (text.new.items ≡ text.old.items ++ hold_text hold) }
+    ensures fault { IfErr result (λ e. e ≡ ScriptFault.OutOfMemory) }
+{
+    match hold {
+        None => Ok(text.extend_from_slice(b" hold=none")?),
+        Some(blocks) => write!(text, " hold={blocks}").map_err(|_| ScriptFault::OutOfMemory),
+    }
 }

@@ -11,7 +11,7 @@ ghost use Rattle.dl_app.specs.Options.{mode_word, repair_word, notify_word, link
 ghost use Rattle.dl_app.specs.Settings.{no_settings, is_set, also_set, args_of};
 
 use crate::items::{head_of, is_item};
-use crate::words::{Words, size};
+use crate::words::{Words, size, small_number};
 use dl_types::{Base, Fail, Kind, Link, Mode, OpenArgs, Repair, Size};
 use std::alloc::Allocator;
 
@@ -26,6 +26,8 @@ pub enum Setting<'a> {
     Head(&'a [u8]),
     Notify(bool),
     Link(Link),
+    /// The most blocks of the cache that the log may have at a time.
+    Hold(u32),
 }
 
 /// What the options of an open have set.
@@ -39,6 +41,7 @@ pub struct Settings<'a> {
     head: Option<&'a [u8]>,
     notify: Option<bool>,
     link: Option<Link>,
+    hold: Option<u32>,
 }
 
 impl<'a> Settings<'a> {
@@ -54,6 +57,7 @@ impl<'a> Settings<'a> {
             head: None,
             notify: None,
             link: None,
+            hold: None,
         }
     }
 
@@ -90,6 +94,10 @@ impl<'a> Settings<'a> {
                 link: Some(link),
                 ..self
             }),
+            Setting::Hold(blocks) if self.hold.is_none() => Some(Settings {
+                hold: Some(blocks),
+                ..self
+            }),
             _ => None,
         }
     }
@@ -119,6 +127,7 @@ impl<'a> Settings<'a> {
             head: head_of(alloc, self.head)?,
             notify: self.notify.unwrap_or(plain.notify),
             link: self.link.unwrap_or(plain.link),
+            hold: self.hold,
         })
     }
 }
@@ -152,8 +161,11 @@ fn setting_in(option: &[u8]) -> Option<Setting<'_>>
         Some(Setting::Head(head_in(word)?))
     } else if let Some(word) = option.strip_prefix(b"notify=") {
         Some(Setting::Notify(notify_in(word)?))
+    } else if let Some(word) = option.strip_prefix(b"link=") {
+        Some(Setting::Link(link_in(word)?))
     } else {
-        Some(Setting::Link(link_in(option.strip_prefix(b"link=")?)?))
+        let word = option.strip_prefix(b"hold=")?;
+        Some(Setting::Hold(small_number(word)?))
     }
 }
 

@@ -3,7 +3,7 @@ ghost use Rattle.std.specs.Prelude.{◌≡◌, ◌==◌, ◌<◌, ◌∷◌, ◌
 ghost use Rattle.std.specs.Iterator.{YieldsFirstBy, item_count};
 ghost use Rattle.std.specs.List.{list_any};
 ghost use Rattle.dl_types.specs.declared.size.Size.{Size};
-ghost use Rattle.dl_app.specs.Words.{words_of, words_in, words_left, number_in, client_of, whole_in, step_of, files_of, WritesSize};
+ghost use Rattle.dl_app.specs.Words.{words_of, words_in, words_left, number_in, client_of, whole_in, step_of, small_of, WritesSize};
 
 use dl_types::{ClientId, Size};
 use memchr::memchr;
@@ -127,13 +127,13 @@ pub fn size(word: &[u8]) -> Option<Size>
     };
     Some(Size::Wrap {
         bytes: number(bytes)?,
-        files: files_in(files)?,
+        files: small_number(files)?,
     })
 }
 
-// Reads the number of files of a wrap log.
-fn files_in(word: &[u8]) -> Option<u32>
-    ensures { result ≡ files_of (number_in word.now) }
+/// Reads a number that fits 32 bits.
+pub fn small_number(word: &[u8]) -> Option<u32>
+    ensures { result ≡ small_of (number_in word.now) }
 {
     u32::try_from(number(word)?).ok()
 }
