@@ -2,6 +2,7 @@ pub mod Script
 pub mod Halt
 pub mod Calls
 pub mod Heads
+pub mod Holds
 pub mod Sets
 pub mod Wrap
 pub mod Blocks

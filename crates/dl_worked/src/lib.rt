@@ -8,6 +8,7 @@ pub mod calls;
 pub mod faults;
 pub mod halt;
 pub mod heads;
+pub mod holds;
 pub mod sent;
 pub mod sets;
 pub mod texts;
