@@ -246,7 +246,10 @@ static int add_options(struct dlog *dlog, const struct dlog_options *options)
         || (options->head != NULL && add_bytes(dlog, options->head) != 0)
         || add_number(dlog, (uint64_t)options->notify, 1) != 0)
         return -1;
-    return add_number(dlog, (uint64_t)options->anonymous, 1);
+    if (add_number(dlog, (uint64_t)options->anonymous, 1) != 0
+        || add_number(dlog, options->hold > 0, 1) != 0)
+        return -1;
+    return options->hold > 0 ? add_number(dlog, options->hold, 4) : 0;
 }
 
 int dlog_open(struct dlog *dlog, uint32_t client, const char *name,

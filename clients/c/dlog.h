@@ -62,6 +62,7 @@ struct dlog_options {
     const struct dlog_bytes *head;
     int notify;
     int anonymous;
+    uint32_t hold;          /* the most blocks that it may have; 0: as it is open, or else any */
 };
 
 struct dlog {

@@ -10,7 +10,7 @@ import collections
 import struct
 import subprocess
 
-VERSION = 1
+VERSION = 2
 READ_BYTES = 65536
 
 REFUSALS = (
@@ -21,7 +21,7 @@ REFUSALS = (
     "stale_continuation", "end_of_log", "corrupt_log_file", "device_fault", "exhausted",
 )
 ARGUMENTS = (
-    "kind", "size", "repair", "head", "items", "item", "count", "continuation", "blocks",
+    "kind", "size", "repair", "head", "items", "item", "count", "continuation", "blocks", "hold",
 )
 KINDS = ("halt", "wrap")
 MODES = ("read_write", "read_only")
@@ -71,7 +71,7 @@ Turn = collections.namedtuple("Turn", "what log")
 Notice = collections.namedtuple("Notice", "client log what value")
 Hello = collections.namedtuple("Hello", "version frame_limit suspended_limit program")
 Info = collections.namedtuple(
-    "Info", "log base kind size mode owners users blocked head written extent"
+    "Info", "log base kind size mode owners users blocked head written extent hold"
 )
 
 
@@ -89,6 +89,10 @@ def _bytes(value):
 
 def _items(items):
     return struct.pack(">I", len(items)) + b"".join(map(_bytes, items))
+
+
+def _number(number):
+    return struct.pack(">I", number)
 
 
 def _option(encode, value):
@@ -191,9 +195,9 @@ class _Reader:
         owners = [self.owner() for _ in range(self.u32())]
         users = self.u32()
         blocked = self.option(lambda: ("refuse", "queue")[self.u8()])
-        writing = (None, None, None)
+        writing = (None, None, None, None)
         if self.u8():
-            writing = (self.option(self.bytes), self.u64(), self.extent())
+            writing = (self.option(self.bytes), self.u64(), self.extent(), self.option(self.u32))
         return Info(log, base, kind, size, mode, owners, users, blocked, *writing)
 
     def notice(self):
@@ -362,8 +366,9 @@ class Client:
         self.number = number
 
     def open(self, name, kind=None, size=None, base=None, mode="read_write", repair="yes",
-             head=None, notify=False, link="owner"):
-        """Opens a log. A `size` of a pair, bytes and files, makes it a wrap log."""
+             head=None, notify=False, link="owner", hold=None):
+        """Opens a log. A `size` of a pair, bytes and files, makes it a wrap log. With a `hold` it has at
+        most so many of the server's blocks, and writes what waits of it where an item needs more."""
         kind = kind or ("wrap" if isinstance(size, tuple) else "halt")
         parts = [
             struct.pack(">B", KINDS.index(kind)),
@@ -372,6 +377,7 @@ class Client:
             struct.pack(">BB", MODES.index(mode), REPAIRS.index(repair)),
             _option(_bytes, head),
             struct.pack(">BB", notify, LINKS.index(link)),
+            _option(_number, hold),
         ]
         log = Log(self, name)
         log.repaired = log.call(1, b"".join(parts))

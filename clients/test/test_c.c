@@ -125,6 +125,27 @@ static void a_block_keeps_the_calls_of_others(const char *parent)
     CHECK(dlog_stop(&dlog) == 0);
 }
 
+static void a_held_log_has_no_more_than_its_blocks(const char *parent)
+{
+    static const uint8_t one[5] = { 1, 0, 0, 0, 1 };
+    struct dlog dlog;
+    struct dlog_answer answer;
+    struct dlog_options options = { .hold = 1 };
+    struct dlog_bytes item = bytes_of("item");
+
+    begin(&dlog, parent, "held");
+    CHECK(dlog_open(&dlog, 1, "held", &options, &answer) == 0 && answer.kind == DLOG_OPENED);
+    CHECK(dlog_log(&dlog, 1, "held", &item, 1, &answer) == 0 && answer.kind == DLOG_DONE);
+    options.hold = 2;
+    CHECK(dlog_open(&dlog, 2, "held", &options, &answer) == 0);
+    CHECK(answer.kind == DLOG_REFUSED + 4 && answer.length == 1 && answer.parts[0] == 9);
+    CHECK(dlog_open(&dlog, 2, "held", NULL, &answer) == 0 && answer.kind == DLOG_OPENED);
+    CHECK(dlog_call(&dlog, 13, 2, "held", NULL, 0, &answer) == 0 && answer.kind == DLOG_INFO);
+    CHECK(answer.length > sizeof one);
+    CHECK(memcmp(answer.parts + answer.length - sizeof one, one, sizeof one) == 0);
+    CHECK(dlog_stop(&dlog) == 0);
+}
+
 static double now(void)
 {
     struct timespec time;
@@ -245,6 +266,7 @@ static const struct {
     { "a full log refuses and tells", a_full_log_refuses_and_tells },
     { "a wrap log rolls", a_wrap_log_rolls },
     { "a block keeps the calls of others", a_block_keeps_the_calls_of_others },
+    { "a held log has no more than its blocks", a_held_log_has_no_more_than_its_blocks },
     { "a hundred thousand items pipelined", a_hundred_thousand_items_pipelined },
     { "what was synced stays after a kill", what_was_synced_stays_after_a_kill },
     { "what is no request is told", what_is_no_request_is_told },

@@ -19,7 +19,8 @@ main([Compiled, Program, Folder]) ->
 
 scenarios() ->
     [{"items come back in order", fun in_order/1}, {"a full log refuses and tells", fun full/1}, {"a wrap log rolls", fun rolls/1},
-     {"a block keeps the calls of others", fun block/1}, {"a hundred thousand items pipelined", fun many/1},
+     {"a block keeps the calls of others", fun block/1}, {"a held log has no more than its blocks", fun held/1},
+     {"a hundred thousand items pipelined", fun many/1},
      {"what was synced stays after a kill", fun killed/1}, {"what is no request is told", fun no_request/1},
      {"many clients stop in order", fun clients/1}].
 
@@ -64,6 +65,17 @@ block(File) ->
     receive {Other, ok} -> ok after 5000 -> error(lost) end,
     {_, Items} = dlog:chunk(shared, start),
     [held, late] = lists:sort(Items).
+
+held(File) ->
+    Held = [{name, held}, {file, File("h")}],
+    {error, {badarg, [{hold, 0}]}} = dlog:open(Held ++ [{hold, 0}]),
+    {ok, held} = dlog:open([{hold, 1} | Held]),
+    Items = [<<Number, 0:23992>> || Number <- [1, 2, 3]],
+    [ok, ok, ok] = [dlog:log(held, Item) || Item <- Items],
+    {error, {arg_mismatch, hold, 1, 2}} = dlog:open([{hold, 2} | Held]),
+    {ok, held} = dlog:open(Held),
+    {_, Items} = dlog:chunk(held, start),
+    {hold, 1} = lists:keyfind(hold, 1, dlog:info(held)).
 
 many(File) ->
     {ok, many} = dlog:open([{name, many}, {file, File("m")}]),

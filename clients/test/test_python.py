@@ -26,7 +26,7 @@ def refusal(call, *arguments):
 
 def items_come_back_in_order(folder):
     with serve(folder) as server:
-        assert server.hello == (1, 16777216, 1024, "dlog"), server.hello
+        assert server.hello == (2, 16777216, 1024, "dlog"), server.hello
         log = server.client(1).open("words")
         log.log(b"first", b"second", b"")
         assert list(log) == [b"first", b"second", b""]
@@ -83,6 +83,29 @@ def a_block_keeps_the_calls_of_others(folder):
         one.exit()
         other.log(b"yes")
         assert list(other)[-1] == b"yes"
+
+
+def a_held_log_has_no_more_than_its_blocks(folder):
+    def written(name):
+        return os.path.getsize(os.path.join(folder, name + ".log"))
+
+    with serve(folder) as server:
+        one, two = server.client(1), server.client(2)
+        assert refusal(lambda: one.open("held", hold=0)) == 1
+        log, free = one.open("held", hold=1), one.open("free")
+        items = [b"%03000d" % number for number in range(3)]
+        for item in items:
+            log.log(item)
+            free.log(item)
+        assert written("held") > 6000 > 3000 > written("free"), (written("held"), written("free"))
+        try:
+            two.open("held", hold=2)
+        except dlog.Refused as refused:
+            assert (refused.number, refused.parts) == (4, ("hold",)), refused
+        else:
+            raise AssertionError("held to another number")
+        assert list(two.open("held")) == items == list(free)
+        assert (log.info().hold, free.info().hold) == (1, None)
 
 
 def a_hundred_thousand_items_pipelined(folder):
@@ -152,6 +175,7 @@ SCENARIOS = (
     a_full_log_refuses_and_tells,
     a_wrap_log_rolls,
     a_block_keeps_the_calls_of_others,
+    a_held_log_has_no_more_than_its_blocks,
     a_hundred_thousand_items_pipelined,
     what_was_synced_stays_after_a_kill,
     what_is_no_request_is_told,

@@ -1,6 +1,6 @@
 //! The scenarios of the clients, by the Rust client. Words: the program, and an empty folder.
 
-use dlog::{Error, Extent, Log, Notice, Options, Reply, Server, Size, Told};
+use dlog::{Error, Extent, Log, Notice, Options, Refused, Reply, Server, Size, Told};
 use std::path::{Path, PathBuf};
 use std::time::Instant;
 
@@ -177,6 +177,34 @@ fn a_block_keeps_the_calls_of_others(place: &Place) -> Outcome {
     Ok(())
 }
 
+fn a_held_log_has_no_more_than_its_blocks(place: &Place) -> Outcome {
+    let (log, other) = (Log::new(1, "held"), Log::new(2, "held"));
+    let held = |blocks| Options {
+        hold: Some(blocks),
+        ..Options::default()
+    };
+    let mut server = place.serve()?;
+    assert_eq!(refusal(server.open(&log, &held(0))), 1);
+    server.open(&log, &held(1))?;
+    let items: Vec<String> = (0..3).map(|number| format!("{number:03000}")).collect();
+    for item in &items {
+        server.log(&log, &[item])?;
+    }
+    assert!(matches!(
+        server.open(&other, &held(2)),
+        Err(Error::Refused(Refused::Argument(4, "hold")))
+    ));
+    server.open(&other, &Options::default())?;
+    assert!(all(&mut server, &other)?
+        .iter()
+        .eq(items.iter().map(String::as_bytes)));
+    assert!(server
+        .info(&log)?
+        .writing
+        .is_some_and(|it| it.hold == Some(1)));
+    Ok(())
+}
+
 fn a_hundred_thousand_items_pipelined(place: &Place) -> Outcome {
     let log = Log::new(1, "many");
     let items: Vec<String> = (0..MANY).map(|number| format!("{number:0100}")).collect();
@@ -244,13 +272,17 @@ fn many_clients_stop_in_order(place: &Place) -> Outcome {
     Ok(())
 }
 
-const SCENARIOS: [(&str, fn(&Place) -> Outcome); 8] = [
+const SCENARIOS: [(&str, fn(&Place) -> Outcome); 9] = [
     ("items come back in order", items_come_back_in_order),
     ("a full log refuses and tells", a_full_log_refuses_and_tells),
     ("a wrap log rolls", a_wrap_log_rolls),
     (
         "a block keeps the calls of others",
         a_block_keeps_the_calls_of_others,
+    ),
+    (
+        "a held log has no more than its blocks",
+        a_held_log_has_no_more_than_its_blocks,
     ),
     (
         "a hundred thousand items pipelined",

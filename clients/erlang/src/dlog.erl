@@ -44,6 +44,7 @@ opened(Log, #{file := File} = Given) ->
         opened -> {ok, Log};
         {repaired, Kept, Bad} -> {repaired, Log, {recovered, Kept}, {badbytes, Bad}};
         {refused, 4, head} -> {error, {arg_mismatch, head, head_of(Log), maps:get(head, Given)}};
+        {refused, 4, hold} -> {error, {arg_mismatch, hold, hold_of(Log), maps:get(hold, Given)}};
         {refused, 4, repair} -> {error, {arg_mismatch, repair, true, maps:get(repair, Given)}};
         {refused, 5, {Old, New}} -> {error, {size_mismatch, dlog_options:from_wire(Old), dlog_options:from_wire(New)}};
         {refused, 9, none} -> {error, {file_error, File, enoent}};
@@ -52,7 +53,7 @@ opened(Log, #{file := File} = Given) ->
         Said -> answer(Log, Said)
     end.
 
-parts_of(#{file := File, type := Type, size := Size, mode := Mode, repair := Repair, head := Head, notify := Notify, linkto := To}) ->
+parts_of(#{file := File, type := Type, size := Size, mode := Mode, repair := Repair, head := Head, notify := Notify, linkto := To, hold := Hold}) ->
     [number(Type, [halt, wrap]),
      dlog_frame:option(fun dlog_frame:text/1, dlog_options:base_of(File)),
      dlog_frame:option(fun(It) -> dlog_frame:size(dlog_options:to_wire(It)) end, Size),
@@ -60,7 +61,8 @@ parts_of(#{file := File, type := Type, size := Size, mode := Mode, repair := Rep
      number(Repair, [true, false, truncate]),
      dlog_frame:option(fun dlog_frame:bytes/1, Head),
      number(Notify, [false, true]),
-     case To of none -> 1; _ -> 0 end].
+     case To of none -> 1; _ -> 0 end,
+     dlog_frame:option(fun dlog_frame:blocks/1, Hold)].
 
 %% The place of a value among those that it may be.
 number(Value, Values) ->
@@ -147,7 +149,7 @@ change_notify(Log, Owner, Notify) ->
     end.
 
 change(Log, Known) ->
-    Parts = parts_of(Known#{size => none, head => none, repair => true}),
+    Parts = parts_of(Known#{size => none, head => none, repair => true, hold => none}),
     case dlog_port:open(Log, Known, Parts) of
         opened -> ok;
         Said -> answer(Log, Said)
@@ -173,7 +175,7 @@ info(Log) ->
 info(Log, #{file := File, owners := Owners}, #{type := Type, size := Size, mode := Mode, users := Users, status := Status, writing := Writing}) ->
     [{name, Log}, {file, File}, {type, Type}, {format, internal}, {size, dlog_options:from_wire(Size)},
      {owners, lists:reverse(Owners)}, {users, Users}]
-    ++ head(Writing) ++ [{mode, Mode}, {status, Status}, {node, node()}] ++ counts(Writing).
+    ++ head(Writing) ++ [{mode, Mode}, {status, Status}, {node, node()}] ++ counts(Writing) ++ hold(Writing).
 
 head(none) -> [];
 head(#{head := Head}) -> [{head, Head}].
@@ -183,6 +185,13 @@ counts(#{full := Full, written := Written}) -> [{full, Full}, {no_written_items,
 counts(#{bytes := Bytes, items := Items, all := All, written := Written, file := File, rolls := Rolls}) ->
     [{no_current_bytes, dlog_options:from_wire(Bytes)}, {no_current_items, Items}, {no_items, All},
      {no_written_items, Written}, {current_file, File}, {no_overflows, Rolls}].
+
+%% Of a log that is held, the most blocks that it may have; disk_log has no such thing.
+hold(#{hold := Blocks}) when is_integer(Blocks) -> [{hold, Blocks}];
+hold(_) -> [].
+
+hold_of(Log) ->
+    case lists:keyfind(hold, 1, info(Log)) of {hold, Blocks} -> Blocks; false -> none end.
 
 head_of(Log) ->
     case lists:keyfind(head, 1, info(Log)) of {head, Head} -> Head; false -> none end.

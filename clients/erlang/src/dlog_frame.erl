@@ -1,7 +1,7 @@
 %% The texts of frames: requests as they are written, and answers as they are read (docs/PROTOCOL.md).
 -module(dlog_frame).
 
--export([text/1, bytes/1, items/1, option/2, size/1, place/1, request/3, answer/1]).
+-export([text/1, bytes/1, items/1, option/2, size/1, blocks/1, place/1, request/3, answer/1]).
 
 -export_type([answer/0]).
 
@@ -30,6 +30,8 @@ option(Part, Value) -> [<<1>>, Part(Value)].
 size(infinity) -> <<0>>;
 size({Bytes, Files}) -> <<2, Bytes:64, Files:32>>;
 size(Bytes) -> <<1, Bytes:64>>.
+
+blocks(Number) -> <<Number:32>>.
 
 place(start) -> <<0>>;
 place(Place) -> <<1, Place:?PLACE_BYTES/binary>>.
@@ -60,7 +62,7 @@ said(Kind, Parts) when Kind > 64 -> {refused, Kind - 64, refusal(Kind - 64, Part
 
 %% What a refusal speaks of.
 refusal(Number, <<Argument>>) when Number =:= 1; Number =:= 4 ->
-    element(Argument + 1, {type, size, repair, head, items, item, count, continuation, blocks});
+    element(Argument + 1, {type, size, repair, head, items, item, count, continuation, blocks, hold});
 refusal(5, Parts) ->
     {Old, Rest} = take_size(Parts),
     {New, <<>>} = take_size(Rest),
@@ -102,11 +104,14 @@ writing(<<0>>) -> none;
 writing(<<1, 0, Rest/binary>>) -> writing(none, Rest);
 writing(<<1, 1, Length:32, Head:Length/binary, Rest/binary>>) -> writing(Head, Rest).
 
-writing(Head, <<Written:64, 0, Full>>) ->
-    #{head => Head, written => Written, full => Full =:= 1};
-writing(Head, <<Written:64, 1, Bytes:64, Items:64, All:64, File:32, Open:64, Info:64>>) ->
+writing(Head, <<Written:64, 0, Full, Hold/binary>>) ->
+    #{head => Head, written => Written, full => Full =:= 1, hold => hold(Hold)};
+writing(Head, <<Written:64, 1, Bytes:64, Items:64, All:64, File:32, Open:64, Info:64, Hold/binary>>) ->
     #{head => Head, written => Written, bytes => Bytes, items => Items, all => All, file => File,
-      rolls => {Open, Info}}.
+      rolls => {Open, Info}, hold => hold(Hold)}.
+
+hold(<<0>>) -> none;
+hold(<<1, Blocks:32>>) -> Blocks.
 
 take_text(<<Length, Text:Length/binary, Rest/binary>>) -> {Text, Rest}.
 

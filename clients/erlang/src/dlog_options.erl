@@ -1,4 +1,4 @@
-%% The options of an open, as disk_log has them.
+%% The options of an open, as disk_log has them, and `{hold, Blocks}`.
 -module(dlog_options).
 
 -export([read/1, base_of/1, wire_name/1, to_wire/1, from_wire/1]).
@@ -6,12 +6,13 @@
 %% A file of dlog begins with 24 bytes and one of disk_log with 8; an item takes as many in both.
 -define(MORE_BYTES, 16).
 -define(LONGEST, 64).
+-define(MOST_BLOCKS, 65536).
 
 %% The options as a map, with what is not given as disk_log takes it.
 read(Options) when is_list(Options) ->
     case read(Options, #{}) of
         #{name := Name} = Given ->
-            Default = #{linkto => self(), repair => true, type => halt, size => none, head => none,
+            Default = #{linkto => self(), repair => true, type => halt, size => none, head => none, hold => none,
                         mode => read_write, notify => false, file => lists:flatten(io_lib:format("~tw.LOG", [Name]))},
             whole(Options, maps:merge(Default, Given), maps:is_key(file, Given));
         #{} -> {error, {badarg, name}};
@@ -48,6 +49,7 @@ is_option({notify, Notify}) -> is_boolean(Notify);
 is_option({head, _}) -> true;
 is_option({mode, Mode}) -> lists:member(Mode, [read_write, read_only]);
 is_option({quiet, Quiet}) -> is_boolean(Quiet);
+is_option({hold, Blocks}) -> is_integer(Blocks) andalso Blocks > 0 andalso Blocks =< ?MOST_BLOCKS;
 is_option(_) -> false.
 
 to_wire(infinity) -> infinity;

@@ -79,6 +79,8 @@ pub struct Writing {
     pub head: Option<Vec<u8>>,
     pub written: u64,
     pub extent: Extent,
+    /// The most blocks that the log may have.
+    pub hold: Option<u32>,
 }
 
 #[derive(Clone, Debug, PartialEq, Eq)]

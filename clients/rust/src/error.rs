@@ -88,7 +88,7 @@ pub enum Error {
     NoMemory,
     /// The server has ended.
     Gone,
-    /// An answer is of no form of version 1.
+    /// An answer is of no form of version 2.
     Form,
     /// The program could not be started.
     Start(io::Error),

@@ -43,6 +43,8 @@ pub struct Options {
     pub head: Option<Vec<u8>>,
     pub notify: bool,
     pub anonymous: bool,
+    /// The most of the server's blocks that the log may have. Where an item needs more, what waits of the log is written.
+    pub hold: Option<u32>,
 }
 
 impl Options {
@@ -56,6 +58,9 @@ impl Options {
         push_option(parts, self.head.as_deref(), push_bytes);
         parts.push(self.notify.into());
         parts.push(self.anonymous.into());
+        push_option(parts, self.hold, |parts, blocks| {
+            parts.extend(blocks.to_be_bytes())
+        });
     }
 }
 

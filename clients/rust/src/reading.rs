@@ -4,7 +4,7 @@ use crate::answer::{Answer, Extent, Info, Notice, Place, Reply, Told, Turn, Writ
 use crate::error::Refused;
 use crate::parts::{Mode, Size};
 
-const ARGUMENTS: [&str; 9] = [
+const ARGUMENTS: [&str; 10] = [
     "kind",
     "size",
     "repair",
@@ -14,6 +14,7 @@ const ARGUMENTS: [&str; 9] = [
     "count",
     "continuation",
     "blocks",
+    "hold",
 ];
 
 /// What is left of a text. What is missing there reads as `None`.
@@ -135,6 +136,7 @@ impl<'a> Reader<'a> {
             head: self.option(Reader::bytes)?,
             written: self.u64()?,
             extent: self.extent()?,
+            hold: self.option(Reader::u32)?,
         })
     }
 

@@ -7,7 +7,7 @@ use std::io::{self, BufReader, Read, Write};
 use std::path::Path;
 use std::process::{Child, ChildStdin, ChildStdout, Command, ExitStatus, Stdio};
 
-const VERSION: u16 = 1;
+const VERSION: u16 = 2;
 
 /// How many bytes are read at a time.
 const READ_BYTES: usize = 65_536;
