@@ -25,13 +25,13 @@ the files what the trace says, so that each line is judged with the files as the
    folder after they changed, may be.
 3. The status of a log is the outcome of the last attempt to log, truncate, sync, resize or begin the next file, or E24 after
    a turn that failed. Its owners are told each change, once, after the other notices of the attempt.
-4. After each line the index names exactly the files of each log, the older files have all their items, and the current one
-   has the front of the items that were answered as done and nothing else, where no write was cut off. What is missing waits:
-   a turn is idle only where nothing waits, and else writes a block of one log. A file that a fault kept from being begun is
-   begun by the next write. A log that was closed, or that a turn has finished, has all its items and is marked as closed.
-   Bytes are written only behind the mark of an open log. A file keeps its layout, and is begun in the second. The count of
-   items and the mark are a write each, and no write leaves a file that is marked as whole with a wrong count. Files that went
-   are removed where nothing failed.
+4. After each line the index names exactly the files of each log, the older files have all their items, and the current one has
+   the front of the items that were answered as done and nothing else, where no write was cut off. What is missing waits, in no
+   more blocks than the log is held to: a turn is idle only where nothing waits, and else writes a block of one log. A file
+   that a fault kept from being begun is begun by the next write. A log that was closed, or that a turn has finished, has all
+   its items and is marked as closed. Bytes are written only behind the mark of an open log. A file keeps its layout, and is
+   begun in the second. The count of items and the mark are a write each, and no write leaves a file that is marked as whole
+   with a wrong count. Files that went are removed where nothing failed.
 5. No line changes files under a base that is not one of its log, and no draft is left but where its removal failed.
 6. After a sync that was answered as done nothing of the log waits, each of its files is synced, and so are the names; each
    put or new name comes after the bytes of the other files under its base and after earlier names, and an index before the

@@ -8,14 +8,13 @@ from dataclasses import replace
 
 import logs
 from hub import Hub
-from stands import beginning, oldest_waiting, strays, waiting
+from stands import BLOCK, beginning, oldest_waiting, strays, waiting
 from stands import why_not, why_not_ended, why_not_ending, why_not_kept, why_not_synced
 
 # A fault at one of these is never passed over. Others may be met where a file that went is removed, or after names have changed.
 HARD = ("pwrite64", "ftruncate", "rename", "write", "pread64", "fdatasync", "openat")
 # An open that fails so may be tried again, with other files closed.
 CROWDED = ("EMFILE", "ENFILE")
-BLOCK = 4_096
 
 
 class Choices:

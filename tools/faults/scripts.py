@@ -29,6 +29,7 @@ class Maker:
         self.pick = random.Random(seed)
         self.kinds = {}
         self.sizes = {}
+        self.holds = {}
         # About which logs are open, as if there were no files before.
         self.hub = Hub()
         self.longs = 0
@@ -58,6 +59,11 @@ class Maker:
             return f"{self.pick.choice((20, 40, 100, 600, 5000))}x{self.pick.choice((1, 2, 3, 4))}"
         return self.pick.choice(("inf", "inf", "600", "3000"))
 
+    def hold(self, name):
+        """The most blocks that a log may have, or none: mostly the same each time that it is opened."""
+        own = self.holds.setdefault(name, self.pick.choice(("", "", " hold=1", " hold=2")))
+        return own if self.pick.random() < 0.95 else " hold=3"
+
     def open(self, name, client=None):
         pick = self.pick
         kind = self.kinds[name]
@@ -69,7 +75,7 @@ class Maker:
         line += pick.choice(("", "", "", " head=H0", " head=H0"))
         line += pick.choice(("",) * 8 + (" repair=truncate", " repair=no", " mode=ro"))
         line += pick.choice(("",) * 14 + (f" base={pick.choice(BASES)}",))
-        return line
+        return line + self.hold(name)
 
     def next(self, name):
         """The next line, mostly one about a log that is open, and by one that is in it."""

@@ -4,6 +4,8 @@ from dataclasses import replace
 
 from texts import HEADS, Index, file_of, found_log, frames, head, read_index, read_item_file
 
+BLOCK = 4_096
+
 
 def is_index_right(log, texts):
     entries = [(file.number, file.generation) for file in log.files]
@@ -53,6 +55,12 @@ def oldest_waiting(log, texts):
     return None
 
 
+def is_held(log, texts):
+    """Whether no more waits of a log than the blocks have that it may have."""
+    name = log.current_name()
+    return log.hold is None or name in texts.torn or waiting(log, texts) <= log.hold * BLOCK + beginning(log)
+
+
 def why_not(log, texts, may_be_shut):
     """Why the files do not stand for a log that is open or lingers, or None."""
     if log.mode == "ro":
@@ -64,6 +72,8 @@ def why_not(log, texts, may_be_shut):
             return f"{log.file_name(file.number)} has not the items of its log"
     if waiting(log, texts) is None:
         return f"{log.current_name()} has not the front of the items of its log"
+    if not is_held(log, texts):
+        return f"more waits of {log.name} than {log.hold} blocks have"
     if not may_be_shut and texts[log.current_name()][4:8] != b"OPEN":
         return f"{log.current_name()} is not marked as that of an open log"
     return None
