@@ -5,7 +5,7 @@ ghost use Rattle.std.specs.Process.{exit_status};
 use crate::noted::Why;
 use crate::tell;
 use dl_pipe::PipeFault;
-use dl_types::{Base, FileName, Name, Refusal};
+use dl_types::{Base, FileName, Name, Part, Refusal};
 use std::fmt::Display;
 use std::fs::{OpenOptions, symlink_metadata};
 use std::io::ErrorKind;
@@ -93,7 +93,7 @@ pub fn advise_on_refusal(rt: &HostRuntime, place: Place<'_>, refusal: Refusal) {
         }
         Refusal::Full => say(
             rt,
-            "in a script of dlog run, size gives it room and truncate empties it",
+            "a greater --size, or none, gives it room; in a script of dlog run, truncate empties it",
         ),
         other => advise_on_files(rt, place, other),
     }
@@ -107,10 +107,7 @@ fn advise_on_files(rt: &HostRuntime, place: Place<'_>, refusal: Refusal) {
         writes,
     } = place;
     match refusal {
-        Refusal::NotALogFile(file) => say(
-            rt,
-            format_args!("{folder}/{file} is no file of a log: move it away, or take another name"),
-        ),
+        Refusal::NotALogFile(file) => advise_on_foreign_file(rt, place, file),
         Refusal::InvalidIndexFile => say(
             rt,
             format_args!(
@@ -129,6 +126,23 @@ fn advise_on_files(rt: &HostRuntime, place: Place<'_>, refusal: Refusal) {
         Refusal::DeviceFault(file) => advise_on_file(rt, folder, file, writes),
         _ => {}
     }
+}
+
+// Says what to do about a file that is no file of a log. A wrap log is not opened without its numbered files.
+fn advise_on_foreign_file(rt: &HostRuntime, place: Place<'_>, file: FileName) {
+    let Place { folder, log, .. } = place;
+    if let Part::Numbered(_) = file.part {
+        return say(
+            rt,
+            format_args!(
+                "{folder}/{file} is no file of a log: put back what was there, or move all files of {log} away"
+            ),
+        );
+    }
+    say(
+        rt,
+        format_args!("{folder}/{file} is no file of a log: move it away, or take another name"),
+    )
 }
 
 // The file of a log that this number names in a refusal: 0 is that of a halt log.

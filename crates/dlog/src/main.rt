@@ -8,6 +8,7 @@ ghost use Rattle.std.specs.Process.{exit_status};
 mod append;
 mod appended;
 mod begin;
+mod beside;
 mod check;
 mod closed;
 mod digest;
@@ -22,6 +23,7 @@ mod noted;
 mod repair;
 mod script;
 mod serve;
+mod standard;
 mod tail;
 mod threads;
 mod told;
@@ -30,10 +32,14 @@ mod watched;
 use anyhow::Result;
 use clap::error::ErrorKind;
 use clap::{ArgMatches, Command, Error};
+use standard::filled_streams;
 use std::alloc::{AllocError, Global};
-use std::env;
 use std::fmt::Display;
 use std::process::ExitCode;
+use std::sync::Wait;
+use std::thread::Threads;
+use std::time::Clock;
+use std::{env, io};
 
 // The bytes that are read, and written, at a time.
 const BUFFER_BYTES: usize = 65_536;
@@ -52,21 +58,36 @@ const UNCLEAN: u8 = 1;
 const UNREAD: u8 = 3;
 
 fn main(rt: HostRuntime) -> Result<ExitCode> {
-    let args = match env::args(&rt) {
+    // Without `/dev/null` the streams stay as they are.
+    let _filled = filled_streams(&rt);
+    run(&rt, &rt)
+}
+
+// Runs the command that the words name.
+fn run<T: Threads + Wait + Clock + Sync>(rt: &HostRuntime, handle: &T) -> Result<ExitCode> {
+    let args = match env::args(rt) {
         Ok(args) => args,
-        Err(error) => return Ok(tell(&rt, error, MISUSED)),
+        Err(error) => return Ok(tell_unread_words(rt, error)),
     };
     let words: Vec<String> = args.collect(rt.alloc())?;
     let command = command(rt.alloc())?;
     let matches = match command.try_get_matches_from(words.as_slice()) {
         Ok(matches) => matches,
-        Err(error) => return Ok(show(&rt, &error)),
+        Err(error) => return Ok(show(rt, &error)),
     };
     match matches.subcommand() {
-        Some(("threads", options)) => Ok(threads::run(&rt, &rt, options)),
-        Some((name, options)) => Ok(run_command(&rt, name, options)),
+        Some(("threads", options)) => Ok(threads::run(rt, handle, options)),
+        Some((name, options)) => Ok(run_command(rt, name, options)),
         None => Ok(ExitCode::from(MISUSED)),
     }
+}
+
+// Says why the words could not be read.
+fn tell_unread_words(rt: &HostRuntime, error: io::Error) -> ExitCode {
+    if error.kind() == io::ErrorKind::InvalidData {
+        return tell(rt, "a word of the command is no UTF-8 text", MISUSED);
+    }
+    tell(rt, error, MISUSED)
 }
 
 // Runs the command of this name.

@@ -1,6 +1,6 @@
 // What is told of a log that is followed.
-use crate::faults::{Place, advise_on_file};
-use crate::{UNREAD, tell};
+use crate::faults::{Place, advise_on_file, say};
+use crate::{FAILED, UNREAD, tell};
 use dl_tail::{Position, TailFault};
 use dl_types::Name;
 use std::process::ExitCode;
@@ -33,6 +33,20 @@ pub fn tell_passed(rt: &HostRuntime, log: Name, next: Position, emptied: bool) {
 /// Tells that the log is not there any more.
 pub fn tell_gone(rt: &HostRuntime, log: Name) {
     let _ = eprintln!(rt; "dlog: {log}: it is not there any more, and is waited for");
+}
+
+/// Says that a file of the log is missing before its last items.
+pub fn tell_missing(rt: &HostRuntime, place: Place<'_>) -> ExitCode {
+    let Place { folder, log, .. } = place;
+    let told = tell(
+        rt,
+        format_args!(
+            "{log}: a file is missing, or is not the one that the index names, and the items after it are not written"
+        ),
+        FAILED,
+    );
+    say(rt, format_args!("dlog check {folder} {log} tells which"));
+    told
 }
 
 /// Says why the files of the log were not read, and what to look at.
