@@ -1,8 +1,38 @@
 # Completions of dlog for bash: put `source dlog.bash` into ~/.bashrc.
+
+# Puts the words that begin as the last one into the answer.
+_dlog_words() {
+    mapfile -t COMPREPLY < <(compgen -W "$1" -- "${COMP_WORDS[COMP_CWORD]}")
+}
+
+# The same for folders (-d) or files (-f), which bash then quotes.
+_dlog_paths() {
+    mapfile -t COMPREPLY < <(compgen "$1" -- "${COMP_WORDS[COMP_CWORD]}")
+    compopt -o filenames 2>/dev/null
+}
+
+# The folder among the words, and whether the last word stands after it.
+_dlog_folder() {
+    local at=2 word
+    folder=
+    while [ "$at" -lt "$COMP_CWORD" ]; do
+        word=${COMP_WORDS[at]}
+        case $word in
+            --wrap | --size | --sync-every | --head | --kind | --from | --most | -n | --last | --digests | --keep-bad) at=$((at + 1)) ;;
+            -*) ;;
+            *)
+                folder=$word
+                return
+                ;;
+        esac
+        at=$((at + 1))
+    done
+}
+
 _dlog() {
-    local word=${COMP_WORDS[COMP_CWORD]} command=${COMP_WORDS[1]} options=
+    local command=${COMP_WORDS[1]} before=${COMP_WORDS[COMP_CWORD - 1]} options= folder=
     if [ "$COMP_CWORD" -eq 1 ]; then
-        mapfile -t COMPREPLY < <(compgen -W 'append dump tail check digest list info repair run threads serve help --help --version' -- "$word")
+        _dlog_words 'append dump tail check digest list info repair run threads serve help --help --version'
         return
     fi
     case $command in
@@ -17,18 +47,34 @@ _dlog() {
         run | threads | serve) options='--folder --blocks --unsynced-rolls --help' ;;
         help) options='append dump tail check digest list info repair run threads serve' ;;
     esac
-    case $word in
-        -*) mapfile -t COMPREPLY < <(compgen -W "$options" -- "$word") ;;
-        *)
-            if [ "$command" = help ]; then
-                mapfile -t COMPREPLY < <(compgen -W "$options" -- "$word")
-            elif [ "$COMP_CWORD" -eq 2 ]; then
-                mapfile -t COMPREPLY < <(compgen -d -- "$word")
-            elif [ "$COMP_CWORD" -ge 3 ] && [ -d "${COMP_WORDS[2]}" ]; then
-                # The logs of the folder: a halt log by its file, and a wrap log by its index.
-                mapfile -t COMPREPLY < <(compgen -W "$(cd "${COMP_WORDS[2]}" && ls 2>/dev/null | sed -n 's/\.\(log\|idx\)$//p')" -- "$word")
-            fi
+    case $before in
+        --kind)
+            _dlog_words 'halt wrap'
+            return
             ;;
+        --folder)
+            _dlog_paths -d
+            return
+            ;;
+        --digests | --keep-bad)
+            _dlog_paths -f
+            return
+            ;;
+        --wrap | --size | --sync-every | --head | --from | --most | -n | --last | --blocks) return ;;
     esac
+    case $command,${COMP_WORDS[COMP_CWORD]} in
+        help,* | *,-*)
+            _dlog_words "$options"
+            return
+            ;;
+        run,* | threads,* | serve,*) return ;;
+    esac
+    _dlog_folder
+    if [ -z "$folder" ]; then
+        _dlog_paths -d
+    elif [ -d "$folder" ]; then
+        # The logs of the folder: a halt log by its file, and a wrap log by its index.
+        _dlog_words "$(cd "$folder" && ls 2>/dev/null | sed -n 's/\.\(log\|idx\)$//p')"
+    fi
 }
 complete -F _dlog dlog
