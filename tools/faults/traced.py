@@ -117,13 +117,13 @@ def feed(process, trace, lines, pause):
     process.stdin.close()
 
 
-def run(program, folder, lines, blocks, faults, scratch, pause=None):
-    """Runs a script, with faults given as texts of strace's option `inject`."""
+def run(program, folder, lines, blocks, faults, scratch, pause=None, words=()):
+    """Runs a script, with faults given as texts of strace's option `inject`, and more words of the command."""
     trace = f"{scratch}/trace"
     command = ["strace", "-f", "--seccomp-bpf", "-y", "-xx", "-s", "4000000", "-o", trace, "-e", f"trace={WATCHED}"]
     for text in faults:
         command += ["-e", f"inject={text}"]
-    command += [program, "run", "--folder", folder, "--blocks", str(blocks)]
+    command += [program, "run", "--folder", folder, "--blocks", str(blocks), *words]
     with open(f"{scratch}/answers", "w+b") as answers, open(f"{scratch}/told", "w+b") as told:
         process = subprocess.Popen(command, stdin=subprocess.PIPE, stdout=answers, stderr=told)
         try:
