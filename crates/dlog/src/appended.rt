@@ -7,7 +7,8 @@ use crate::closed::{tell_finished, tell_lingering};
 use crate::faults::{Failure, Place, advise, say, tell_failure};
 use crate::noted::Why;
 use crate::{FAILED, tell};
-use dl_pipe::{Appended, Closing, PipeFault, Source, Stage, Stop};
+use dl_pipe::{Appended, Closing, PipeFault, Source, Stage, Stop, Syncs};
+use dl_types::Refusal;
 use std::process::ExitCode;
 
 /// What the report on an append has to know of it.
@@ -15,6 +16,7 @@ use std::process::ExitCode;
 pub struct Report<'a> {
     pub place: Place<'a>,
     pub source: Source,
+    pub syncs: Syncs,
 }
 
 /// Says what an append came to, unless all items were logged, nothing was repaired, and the device did not fail.
@@ -69,8 +71,26 @@ fn tell_stop(
         tell_lingering(rt, many);
     }
     tell_kept(rt, report.place, appended);
+    if let (Stage::Item, Syncs::Every(_)) = (stop.at, report.syncs) {
+        tell_unsynced(rt, report, fault, appended.items);
+    }
     advise(rt, report.place, fault);
     told
+}
+
+// Says that the item at which the device failed may be in the log: it is logged before it is synced.
+fn tell_unsynced(rt: &HostRuntime, report: Report<'_>, fault: PipeFault, items: u64) {
+    let Place { folder, log, .. } = report.place;
+    let (one, _) = words_of(report.source);
+    let next = items.saturating_add(1);
+    if let PipeFault::Refused(Refusal::DeviceFault(_)) = fault {
+        say(
+            rt,
+            format_args!(
+                "{one} {next} may be in the log all the same: dlog check {folder} {log} counts what is there"
+            ),
+        );
+    }
 }
 
 // Says at which stage an append stopped, after it had taken `items` items.
