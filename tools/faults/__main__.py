@@ -1,6 +1,6 @@
-"""Runs random scripts over failing devices, and judges what dlog answers and leaves.
+"""Runs random scripts and commands over failing devices, and judges what dlog answers and leaves.
 
-  python3 tools/faults [PROGRAM] [--seed N] [--scripts N] [--most N] [--findings N] [--device DIR]
+  python3 tools/faults [PROGRAM] [--seed N] [--scripts N] [--commands N] [--most N] [--findings N] [--device DIR]
 
 PROGRAM is a built dlog, crates/dlog/out/dlog if it is not given. Each script is run once without a fault under strace, and
 then again and again with some of the calls on the folder's files made to fail, by EIO, ENOSPC or, at an open, EMFILE: one
@@ -39,7 +39,9 @@ the files what the trace says, so that each line is judged with the files as the
 7. If no call fails in the turns at the end, the last of them is idle.
 8. A new process reads from the files that are left just what they say.
 
-Without --device a server is then served a few calls too, whose last writes fail (`served.py`).
+Without --device a server is then served a few calls too, whose last writes fail (`served.py`). And lines are appended to logs
+(`appended.py`) and torn logs are repaired (`repaired.py`), as many of each as --commands says, each without a fault and then with
+--most. With `--scripts 0` these are run alone.
 """
 import argparse
 import os
@@ -50,7 +52,11 @@ import tempfile
 
 sys.dont_write_bytecode = True
 
+import appended
+import commands
 import faults
+import place
+import repaired
 import scripts
 import served
 import traced
@@ -58,52 +64,27 @@ from folder import Folder
 from judge import Judge
 
 TOP = os.path.dirname(os.path.dirname(os.path.dirname(os.path.realpath(__file__))))
-PAGE = 4_096
-BALLAST = "ballast"
-# The greatest device, in pages, that is filled up.
-SMALL = 4_096
 COUNTED = ("scripts", "runs", "runs that met a fault", "failed calls", "writes cut off", "lines", "logs read anew")
 # After how many runs the files are read by a new process.
 ANEW = 8
 
 
-def free_pages(folder):
-    found = os.statvfs(folder)
-    return found.f_bavail * found.f_frsize // PAGE
-
-
-def is_small(folder):
-    """Whether a folder is an empty one on a device that may be filled up."""
-    return os.path.isdir(folder) and not os.listdir(folder) and free_pages(folder) <= SMALL
-
-
 class Trials:
     """Runs of scripts, and counts of what was judged."""
 
-    def __init__(self, program, scratch, place):
+    def __init__(self, program, scratch, folder):
         self.program = program
         self.scratch = scratch
-        self.place = place
+        self.folder = folder
         self.counts = dict.fromkeys(COUNTED, 0)
-
-    def fill(self, texts, room):
-        """Puts the files of a script into the folder and, on a small device, what leaves so many pages free."""
-        for name in os.listdir(self.place):
-            os.remove(f"{self.place}/{name}")
-        for name, text in texts.items():
-            with open(f"{self.place}/{name}", "wb") as file:
-                file.write(text)
-        if room is not None:
-            with open(f"{self.place}/{BALLAST}", "wb") as file:
-                file.write(bytes(PAGE * max(0, free_pages(self.place) - room)))
 
     def run(self, script, plan, room=None):
         """Runs and judges a script. Returns the run, and the line at which something is wrong with what it is, or None."""
-        self.fill(script.texts, room)
+        place.fill(self.folder, script.texts, room)
         pause = None
         if room is not None and plan.is_over:
-            pause = (script.end, lambda: os.remove(f"{self.place}/{BALLAST}"))
-        run = traced.run(self.program, self.place, script.lines, script.blocks, plan.texts, self.scratch, pause)
+            pause = (script.end, lambda: place.make_room(self.folder))
+        run = traced.run(self.program, self.folder, script.lines, script.blocks, plan.texts, self.scratch, pause)
         calls = [call for step in run.steps for call in step]
         failed = sum(map(traced.Call.is_fault, calls))
         self.counts["runs"] += 1
@@ -124,18 +105,10 @@ class Trials:
         last = max(at for at, line in enumerate(script.lines) if line != "flush") + 1
         if run.answers[-1] != "turn idle" and not any(call.is_fault() for step in run.steps[last:] for call in step):
             return len(script.lines) - 1, "nothing fails any more, and turns do not come to an end"
-        there = self.there()
+        there = place.there(self.folder)
         if there != judge.folder.texts():
             return len(script.lines), "the folder is not what the trace says"
         return self.read_anew(there) if self.counts["runs"] % ANEW == 0 else None
-
-    def there(self):
-        texts = {}
-        for name in os.listdir(self.place):
-            if name != BALLAST:
-                with open(f"{self.place}/{name}", "rb") as file:
-                    texts[name] = file.read()
-        return texts
 
     def read_anew(self, texts):
         """Reads all that is left by a new process, which changes nothing."""
@@ -146,7 +119,7 @@ class Trials:
             lines.append(f"1 open n{at} {kinds[part]} base={base} mode=ro")
             lines += [f"1 chunk n{at} next 99"] * (3 + len(texts) + sum(map(len, texts.values())) // 65_536)
             lines.append(f"1 close n{at}")
-        run = traced.run(self.program, self.place, lines, 1, [], self.scratch)
+        run = traced.run(self.program, self.folder, lines, 1, [], self.scratch)
         judge = Judge(Folder(texts))
         judge.may_leave_drafts = True
         self.counts["logs read anew"] += len(parts)
@@ -177,9 +150,8 @@ def cases(script, run, left, seed, words):
         for plan in faults.plans(run, script.end, pick, words.most):
             yield plan, None
     else:
-        pages = sum(-(-len(text) // PAGE) for text in left.values()) - len(script.texts)
-        for _ in range(words.most):
-            yield faults.Plan([], pick.random() < 0.6), pick.randint(0, max(1, pages))
+        for room in place.rooms(script.texts, left, pick, words.most):
+            yield faults.Plan([], pick.random() < 0.6), room
 
 
 def judge_scripts(trials, words):
@@ -190,7 +162,7 @@ def judge_scripts(trials, words):
         trials.counts["scripts"] += 1
         calm = faults.Plan([], True)
         run, wrong = trials.run(script, calm)
-        todo = [(calm, None)] if wrong else cases(script, run, trials.there(), seed, words)
+        todo = [(calm, None)] if wrong else cases(script, run, place.there(trials.folder), seed, words)
         for plan, room in todo:
             if not wrong:
                 run, wrong = trials.run(script, plan, room)
@@ -205,32 +177,43 @@ def judge_scripts(trials, words):
     return found
 
 
+def judge_others(trials, words):
+    """Judges a server, unless the device is a small one, appends and repairs. For each of them how many runs there were, and what
+    is wrong."""
+    if words.device is None:
+        yield "servers", *served.judge(trials.program, trials.scratch)
+    for what, module in (("appends", appended), ("repairs", repaired)):
+        runs = commands.Trials(trials.program, trials.scratch, trials.folder, module.Judge)
+        yield what, *runs.judged(module.case_of, words)
+
+
 def main():
     parser = argparse.ArgumentParser(prog="faults")
     parser.add_argument("program", nargs="?", default=f"{TOP}/crates/dlog/out/dlog")
     parser.add_argument("--seed", type=int, default=1)
     parser.add_argument("--scripts", type=int, default=20)
-    parser.add_argument("--most", type=int, default=24, help="faults of single calls for each script, beside others")
+    parser.add_argument("--commands", type=int, default=5, help="seeds of appends, and of repairs")
+    parser.add_argument("--most", type=int, default=24, help="faults of single calls for each script, beside others, and faults for each command")
     parser.add_argument("--findings", type=int, default=1, help="ends when so many are found")
     parser.add_argument("--device", help="an empty folder on a small file system")
     words = parser.parse_args()
     if not os.access(words.program, os.X_OK) or shutil.which("strace") is None:
         print(f"faults: no program, or no strace: {words.program}", file=sys.stderr)
         return 2
-    if words.device is not None and not is_small(words.device):
+    if words.device is not None and not place.is_small(words.device):
         print(f"faults: no empty folder on a small file system: {words.device}", file=sys.stderr)
         return 2
     with tempfile.TemporaryDirectory(prefix="dlog-faults-") as scratch:
-        place = os.path.realpath(words.device or f"{scratch}/logs")
-        os.makedirs(place, exist_ok=True)
-        trials = Trials(os.path.realpath(words.program), scratch, place)
+        folder = os.path.realpath(words.device or f"{scratch}/logs")
+        os.makedirs(folder, exist_ok=True)
+        trials = Trials(os.path.realpath(words.program), scratch, folder)
         found = judge_scripts(trials, words)
-        trials.fill({}, None)
-        runs, wrong = (0, []) if words.device else served.judge(trials.program, scratch)
-    for reason in wrong:
-        print(f"WRONG: a server: {reason}")
-    print(f"{trials.counts}, {found} wrong; {runs} servers, {len(wrong)} wrong")
-    return 1 if found or wrong else 0
+        others = list(judge_others(trials, words))
+        place.fill(folder, {})
+    for what, _runs, wrong in others:
+        print("".join(f"\nWRONG: {what}: {reason}\n" for reason in wrong), end="")
+    print("; ".join([f"{trials.counts}, {found} wrong", *(f"{runs} {what}, {len(wrong)} wrong" for what, runs, wrong in others)]))
+    return 1 if found or any(wrong for _what, _runs, wrong in others) else 0
 
 
 if __name__ == "__main__":
