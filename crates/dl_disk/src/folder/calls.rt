@@ -4,6 +4,7 @@ ghost use Rattle.std.specs.Path.{path_buf_bytes, path_join};
 ghost use Rattle.dl_types.specs.declared.file.FileName.{FileName};
 ghost use Rattle.dl_types.specs.Printed.{printed_file};
 ghost use Rattle.dl_disk.specs.Folder.{IsClosed, IsKept, known_length};
+ghost use Rattle.dl_disk.specs.declared.syncs.Syncs.TheVariants.{AtRolls, OnlyWhenAsked};
 ghost use Rattle.dl_disk.specs.Owed.{owes};
 
 use super::kept::Kept;
@@ -154,14 +155,20 @@ impl<R: Files<File = File> + AllocGlobal + Clone + Drop> Folder<R> {
         self.kept.write_at(file, at, bytes)
     }
 
-    /// Cuts a file off at a length that it has.
+    /// Cuts a file off at a length that it has. The cut is durable then, unless syncs are made only when they are asked for: a
+    /// power cut could give back what was cut, behind other bytes that were written since.
     pub(crate) fn cut(&mut self, file: FileName, size: u64) -> io::Result<()>
         ensures ok { OnOk result (known_length self.new.kept.files.entries file ≡ Some size) }
         ensures err { OnErr result (IsClosed self.new.kept.files.entries file) }
-        ensures owes { OnOk result (IsTrue (owes self.new.owed file)) }
+        ensures durable { OnOk result (self.old.syncs ≡ AtRolls → owes self.new.owed file ≡ false) }
+        ensures owes { OnOk result (self.old.syncs ≡ OnlyWhenAsked → IsTrue (owes self.new.owed file)) }
     {
         self.open_to_write(file)?;
-        self.kept.cut(file, size)
+        self.kept.cut(file, size)?;
+        if self.syncs == Syncs::OnlyWhenAsked {
+            return Ok(());
+        }
+        self.sync_cut(file)
     }
 }
 

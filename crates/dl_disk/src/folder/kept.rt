@@ -134,7 +134,8 @@ impl Kept {
 
     /// Makes what was written to a kept file durable. A fault closes it.
     pub(crate) fn sync(&mut self, name: FileName) -> io::Result<()>
-        ensures { OnErr result (IsClosed self.new.files.entries name) }
+        ensures err { OnErr result (IsClosed self.new.files.entries name) }
+        ensures length { OnOk result (known_length self.new.files.entries name ≡ known_length self.old.files.entries name) }
     {
         let answer = match self.files.peek(&name) {
             Some(opened) => opened.file.sync_data(),

@@ -3,7 +3,7 @@ ghost use Rattle.std.specs.Prelude.{◌≡◌, ◌≤◌, ◌<◌, false, length
 ghost use Rattle.indexmap.specs.IndexSet.{spare};
 ghost use Rattle.dl_types.specs.declared.file.FileName.{FileName};
 ghost use Rattle.dl_disk.specs.declared.syncs.Syncs.TheVariants.{AtRolls};
-ghost use Rattle.dl_disk.specs.Folder.{IsClosed};
+ghost use Rattle.dl_disk.specs.Folder.{IsClosed, known_length};
 ghost use Rattle.dl_disk.specs.Owed.{IsSettledBeside, KeepsLost, KeepsSettled, is_lost, owes};
 
 use super::calls::{Folder, if_there};
@@ -23,7 +23,8 @@ impl<R: Files<File = File> + AllocGlobal + Clone + Drop> Folder<R> {
         ensures fewer { OnOk result (IsTrue (owes self.old.owed file) → length self.new.owed.files.keys < length self.old.owed.files.keys) }
         ensures others { KeepsSettled self.old.owed self.new.owed }
         ensures lost { KeepsLost self.old.owed self.new.owed }
-        ensures err { OnErr result (IsTrue (is_lost self.new.owed file)) }
+        ensures err { OnErr result (IsTrue (is_lost self.new.owed file) × IsClosed self.new.kept.files.entries file) }
+        ensures length { OnOk result (known_length self.new.kept.files.entries file ≡ known_length self.old.kept.files.entries file) }
         ensures rest { self.new ≡ record self.old { kept = self.new.kept; owed = self.new.owed } }
     {
         let answer = self.kept.sync(file);
@@ -33,6 +34,19 @@ impl<R: Files<File = File> + AllocGlobal + Clone + Drop> Folder<R> {
             self.owed.lose(file);
         }
         answer
+    }
+
+    /// Makes a file durable that was cut and is kept open.
+    pub(crate) fn sync_cut(&mut self, file: FileName) -> io::Result<()>
+        ensures ok { OnOk result (owes self.new.owed file ≡ false) }
+        ensures err { OnErr result (IsClosed self.new.kept.files.entries file) }
+        ensures length { OnOk result (known_length self.new.kept.files.entries file ≡ known_length self.old.kept.files.entries file) }
+    {
+        if let Err(error) = self.owed.ready_loss() {
+            self.kept.close(file);
+            return Err(error.into());
+        }
+        self.sync_kept(file)
     }
 
     // Makes the bytes of a file durable, if it is there.
