@@ -11,6 +11,7 @@ MOST_SECONDS = 60
 MOST_CHUNKS = 300
 BLOCKS = 4
 ZEROS = re.compile(r"(\S+) zeros\b.*")
+COUNTED = re.compile(r"(\S+) miscounted: it was closed with \d+ items and has (\d+)")
 TOLD = re.compile(r"(\S+) (halt|wrap) (.*)")
 AMOUNT = re.compile(r"files=(\d+) items=(\d+) bytes=\d+ bad=(\d+)(?: miscounted=(\d+))? (.*)")
 REPAIR = re.compile(r"needs repair: (\d+) items kept, (\d+) bytes bad")
@@ -65,12 +66,25 @@ def why_not_told(found, line):
     return None if state == word and int(wrong or 0) == miscounted else f"{word}, and check tells {line}"
 
 
+def torn(found):
+    """The last files of logs that need a repair, by name."""
+    for (base, _), log in found.items():
+        if log.needs_repair and not log.refusal:
+            yield f"{base}.{log.files[-1].number or 'log'}", log.files[-1]
+
+
 def zeros(found):
     """The files of which check has to tell that their last item is of zeros."""
-    for (base, _), log in found.items():
-        items = log.files[-1].items if log.needs_repair and not log.refusal else []
-        if items and items[-1] and not any(items[-1]):
-            yield f"{base}.{log.files[-1].number or 'log'}"
+    for name, last in torn(found):
+        if last.items and last.items[-1] and not any(last.items[-1]):
+            yield name
+
+
+def counted(found):
+    """The files of which check has to tell that they were closed with another number of items, and how many they have."""
+    for name, last in torn(found):
+        if last.miscounted:
+            yield name, str(len(last.items))
 
 
 def why_not_checked(program, folder, found):
@@ -86,7 +100,10 @@ def why_not_checked(program, folder, found):
         if reason:
             return f"{'.'.join(family)}: {reason}"
     wanted, given = sorted(zeros(found)), sorted(match.group(1) for match in map(ZEROS.fullmatch, lines) if match)
-    return None if wanted == given else f"check tells zeros of {given}, and they are in {wanted}"
+    if wanted != given:
+        return f"check tells zeros of {given}, and they are in {wanted}"
+    wanted, given = sorted(counted(found)), sorted(match.groups() for match in map(COUNTED.fullmatch, lines) if match)
+    return None if wanted == given else f"check tells other counts of {given}, and they are of {wanted}"
 
 
 def why_not_run(program, folder, texts):

@@ -8,8 +8,8 @@ use dl_pipe::{
     Syncs, append_items, dump_log, repair_log,
 };
 use dl_tool::{
-    LogFiles, Style, check_logs, describe_log, ends_in_zeros, find_logs, find_strays, list_logs,
-    logs_named,
+    LogFiles, Losses, Style, check_logs, describe_log, find_logs, find_losses, find_strays,
+    list_logs, logs_named,
 };
 use dl_types::{Base, FileName, Item, Kind, Name, Size};
 use std::alloc::Global;
@@ -30,7 +30,7 @@ pub fn tell_of<D: Disk>(
             let style = style_of(others);
             let mut torn = Vec::new(alloc);
             check_logs(alloc, disk, &found, style, &mut torn, output)?;
-            tell_zeros(alloc, disk, torn.as_slice(), style, output)?;
+            tell_losses(alloc, disk, torn.as_slice(), style, output)?;
             tell_strays(alloc, disk, style, output)?;
             Ok(None)
         }
@@ -59,8 +59,8 @@ fn tell_strays<D: Disk>(
     Ok(())
 }
 
-// Reports those of these files whose last item has no byte but zeros, as a check does.
-fn tell_zeros<D: Disk>(
+// Reports what these files, the last ones of logs that need a repair, show of items that were lost, as a check does.
+fn tell_losses<D: Disk>(
     alloc: Global,
     disk: &mut D,
     files: &[FileName],
@@ -68,10 +68,39 @@ fn tell_zeros<D: Disk>(
     output: &mut Vec<u8>,
 ) -> Result<(), CaseFault> {
     for file in files {
-        if ends_in_zeros(alloc, disk, *file).map_err(|_| CaseFault::Tool)? {
-            let why = "its last item has no byte but zeros";
-            tell_file(*file, style, "zeros", why, output)?;
+        let losses = find_losses(alloc, disk, *file).map_err(|_| CaseFault::Tool)?;
+        tell_loss(*file, losses, style, output)?;
+    }
+    Ok(())
+}
+
+// Reports what a file shows of items that were lost.
+fn tell_loss(
+    file: FileName,
+    losses: Losses,
+    style: Style,
+    output: &mut Vec<u8>,
+) -> io::Result<()> {
+    let Losses {
+        items,
+        counted,
+        zeros,
+    } = losses;
+    if let Some(counted) = counted {
+        match style {
+            Style::Line => writeln!(
+                output,
+                "{file} miscounted: it was closed with {counted} items and has {items}"
+            )?,
+            Style::Json => writeln!(
+                output,
+                "{{\"file\":\"{file}\",\"state\":\"miscounted\",\"counted\":{counted},\"items\":{items}}}"
+            )?,
         }
+    }
+    if zeros {
+        let why = "its last item has no byte but zeros";
+        tell_file(file, style, "zeros", why, output)?;
     }
     Ok(())
 }

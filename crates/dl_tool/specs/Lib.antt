@@ -13,4 +13,5 @@ pub mod Copy
 pub mod Named
 pub mod Stray
 pub mod Zeros
+pub mod Losses
 pub mod Begin

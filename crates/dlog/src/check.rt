@@ -3,7 +3,7 @@ ghost use Rattle.std.specs.Prelude.{◌≡◌};
 ghost use Rattle.std.specs.Process.{exit_status};
 ghost use Rattle.dlog.specs.Status.{health_status};
 
-use crate::files::{tell_odd, tell_strays, tell_zeros};
+use crate::files::{tell_losses, tell_odd, tell_strays};
 use crate::folder::{FolderOfLogs, folder_in, folder_word, logs_in, no_name, opened};
 use crate::kept::{compare_logs, lines_in, with_missing};
 use crate::{BUFFER_BYTES, MISUSED, UNCLEAN, UNREAD, tell};
@@ -25,7 +25,7 @@ pub fn check_command<'a>(alloc: Global) -> Result<Command<'a>, AllocError> {
     Command::new(alloc, "check")
         .about("Check the logs of a folder, and change nothing")
         .after_help(
-            "A line is told for each log: how much it has, and `clean`, `damaged` if older files of a wrap log have bad bytes, `miscounted` if some count another number of items than they have, or what an open would do. A numbered file that no index names is told as `stray`.\nWith --digests a line is told for each digest that does not hold: `changed` if the items have another one, `shorter` if there are fewer, and `gone` if their file is not there, since it gave way to another or was emptied. Items that came since are no change.\nThe status is 0 if all are clean, nothing is stray, and no digest says changed or shorter, 1 if not, 2 if FILE has a line that is no digest, and 3 if a log or FILE could not be read.\n\nExamples: dlog check logs audit\n          dlog check logs --digests audit.digests",
+            "A line is told for each log: how much it has, and `clean`, `damaged` if older files of a wrap log have bad bytes, `miscounted` if some count another number of items than they have, or what an open would do. The last file of a log that needs a repair is told as `miscounted` if it was closed with another number of items than it has, and as `zeros` if its last item has no byte but zeros; a numbered file that no index names as `stray`.\nWith --digests a line is told for each digest that does not hold: `changed` if the items have another one, `shorter` if there are fewer, and `gone` if their file is not there, since it gave way to another or was emptied. Items that came since are no change.\nThe status is 0 if all are clean, nothing is stray, and no digest says changed or shorter, 1 if not, 2 if FILE has a line that is no digest, and 3 if a log or FILE could not be read.\n\nExamples: dlog check logs audit\n          dlog check logs --digests audit.digests",
         )
         .arg(folder_word(alloc))?
         .arg(names_word(alloc))?
@@ -157,7 +157,7 @@ fn check_folder(
     if status == ExitCode::from(UNREAD) {
         tell_odd(rt, folder_in(options), disk, logs)?;
     }
-    tell_zeros(rt, disk, torn.as_slice(), style)?;
+    tell_losses(rt, disk, torn.as_slice(), style)?;
     let asked = match options.get_strs("names") {
         None => None,
         Some(_) => Some(logs),

@@ -3,8 +3,9 @@ use crate::faults::{advise_on_file, is_refused};
 use crate::folder::{FolderOfLogs, tell_unlisted};
 use crate::{UNREAD, tell};
 use dl_disk::Disk;
-use dl_tool::{LogFiles, Style, ends_in_zeros, find_strays};
+use dl_tool::{LogFiles, Losses, Style, find_losses, find_strays};
 use dl_types::FileName;
+use std::io;
 use std::process::ExitCode;
 
 /// Reports the numbered files of a folder that no index names, or those of them that have a base of these logs. Returns whether
@@ -37,27 +38,61 @@ fn is_asked(file: FileName, logs: Option<&[LogFiles]>) -> bool {
     }
 }
 
-/// Reports those of these files whose last item has bytes, none of them other than zero.
-pub fn tell_zeros(
+/// Reports what these files, the last ones of logs that need a repair, show of items that were lost.
+pub fn tell_losses(
     rt: &HostRuntime,
     disk: &mut FolderOfLogs,
     files: &[FileName],
     style: Style,
 ) -> Result<(), ExitCode> {
     for file in files {
-        match ends_in_zeros(rt.alloc(), disk, *file) {
-            Ok(true) => tell_file(
-                rt,
-                *file,
-                style,
-                "zeros",
-                "its last item has no byte but zeros",
-            )?,
-            Ok(false) => {}
+        match find_losses(rt.alloc(), disk, *file) {
+            Ok(losses) => tell_loss(rt, *file, losses, style)?,
             Err(fault) => return Err(tell(rt, fault, UNREAD)),
         }
     }
     Ok(())
+}
+
+// Reports what a file shows of items that were lost.
+fn tell_loss(
+    rt: &HostRuntime,
+    file: FileName,
+    losses: Losses,
+    style: Style,
+) -> Result<(), ExitCode> {
+    let Losses {
+        items,
+        counted,
+        zeros,
+    } = losses;
+    if let Some(counted) = counted {
+        tell_count(rt, file, counted, items, style)?;
+    }
+    if zeros {
+        let why = "its last item has no byte but zeros";
+        tell_file(rt, file, style, "zeros", why)?;
+    }
+    Ok(())
+}
+
+// Reports a file that was closed with another number of items than it has.
+fn tell_count(
+    rt: &HostRuntime,
+    file: FileName,
+    counted: u64,
+    items: u64,
+    style: Style,
+) -> Result<(), ExitCode> {
+    let told = match style {
+        Style::Line => {
+            println!(rt; "{file} miscounted: it was closed with {counted} items and has {items}")
+        }
+        Style::Json => println!(rt;
+            "{{\"file\":\"{file}\",\"state\":\"miscounted\",\"counted\":{counted},\"items\":{items}}}"
+        ),
+    };
+    end_told(rt, told)
 }
 
 /// Says which files of these logs the system refuses, and why.
@@ -92,6 +127,11 @@ fn tell_file(
         Style::Line => println!(rt; "{file} {word}: {why}"),
         Style::Json => println!(rt; "{{\"file\":\"{file}\",\"state\":\"{word}\"}}"),
     };
+    end_told(rt, told)
+}
+
+// Says why a report was not written, if it was not.
+fn end_told(rt: &HostRuntime, told: io::Result<()>) -> Result<(), ExitCode> {
     match told {
         Ok(()) => Ok(()),
         Err(error) => Err(tell(rt, format_args!("standard output: {error}"), UNREAD)),
