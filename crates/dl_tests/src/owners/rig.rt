@@ -95,11 +95,6 @@ impl<A: Allocator + Copy> Rig<A> {
         self.owners.logs_of(ClientId(client)).len()
     }
 
-    /// Whether an owner of any log may want notices.
-    pub(crate) fn may_tell(&self) -> bool {
-        self.owners.may_tell()
-    }
-
     // Whether these are the owners of a log, in this order.
     fn are_owners(&self, log: Name, wanted: &[(u32, bool)]) -> bool {
         let mut rest = wanted.iter();
