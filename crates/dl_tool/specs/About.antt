@@ -48,7 +48,7 @@ repair_text kept cut = keeps_text kept ++ cut_text cut
 abbrev pub IsStateText : Finding → List ℕ → Type 0
 IsStateText Absent text = text ≡ state_field (codes "no such log")
 IsStateText (Clean a) text = text ≡ amount_fields a ++ state_field (whole_word a)
-IsStateText (Torn a file kept cut) text = text ≡ amount_fields a ++ state_field (repair_text kept cut)
+IsStateText (Torn a file kept cut wrong) text = text ≡ amount_fields a ++ state_field (repair_text kept cut)
 IsStateText (Refused refusal) text = text ≡ state_field (codes "refused: " ++ refusal_text refusal)
 IsStateText (Unread file) text = text ≡ state_field (codes "cannot read " ++ printed_file file)
 

@@ -47,7 +47,7 @@ json_field key text = codes ",\"" ++ key ++ codes "\":\"" ++ text ++ codes "\""
 abbrev pub IsJsonText : Finding → List ℕ → Type 0
 IsJsonText Absent text = text ≡ json_state (codes "no such log")
 IsJsonText (Clean a) text = text ≡ json_amount (whole_word a) a
-IsJsonText (Torn a file kept cut) text = text ≡ json_amount (codes "needs repair") a ++ json_repair kept cut
+IsJsonText (Torn a file kept cut wrong) text = text ≡ json_amount (codes "needs repair") a ++ json_repair kept cut
 IsJsonText (Refused refusal) text = text ≡ json_state (codes "refused") ++ json_field (codes "why") (refusal_text refusal)
 IsJsonText (Unread file) text = text ≡ json_state (codes "unread") ++ json_field (codes "file") (printed_file file)
 

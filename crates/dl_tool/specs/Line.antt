@@ -39,7 +39,7 @@ cut_text cut = decimal cut ++ codes " bytes bad"
 abbrev pub IsFindingText : Finding → List ℕ → Type 0
 IsFindingText Absent text = text ≡ codes "no such log"
 IsFindingText (Clean a) text = text ≡ amount_text a ++ codes " " ++ whole_word a
-IsFindingText (Torn a file kept cut) text = text ≡ amount_text a ++ kept_text kept ++ cut_text cut
+IsFindingText (Torn a file kept cut wrong) text = text ≡ amount_text a ++ kept_text kept ++ cut_text cut
 IsFindingText (Refused refusal) text = text ≡ codes "refused: " ++ refusal_text refusal
 IsFindingText (Unread file) text = text ≡ codes "cannot read " ++ printed_file file
 

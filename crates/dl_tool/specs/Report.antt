@@ -19,7 +19,7 @@ use Rattle.dl_tool.specs.Told.{IsTold}
 abbrev pub is_opened : Finding → Bool
 is_opened finding.Absent = false
 is_opened (finding.Clean a) = true
-is_opened (finding.Torn a file kept cut) = false
+is_opened (finding.Torn a file kept cut wrong) = false
 is_opened (finding.Refused refused) = false
 is_opened (finding.Unread file) = false
 
@@ -27,7 +27,7 @@ is_opened (finding.Unread file) = false
 abbrev pub is_clean : Finding → Bool
 is_clean finding.Absent = false
 is_clean (finding.Clean a) = (a.bad == 0) && (a.miscounted == 0)
-is_clean (finding.Torn a file kept cut) = false
+is_clean (finding.Torn a file kept cut wrong) = false
 is_clean (finding.Refused refused) = false
 is_clean (finding.Unread file) = false
 
@@ -35,7 +35,7 @@ is_clean (finding.Unread file) = false
 abbrev pub is_unread : Finding → Bool
 is_unread finding.Absent = false
 is_unread (finding.Clean a) = false
-is_unread (finding.Torn a file kept cut) = false
+is_unread (finding.Torn a file kept cut wrong) = false
 is_unread (finding.Refused refused) = false
 is_unread (finding.Unread file) = true
 

@@ -20,7 +20,7 @@ use Rattle.dl_tool.specs.Line.{whole_word}
 abbrev pub amount_in : Finding → Option Amount
 amount_in Absent = None
 amount_in (Clean a) = Some a
-amount_in (Torn a file kept cut) = Some a
+amount_in (Torn a file kept cut wrong) = Some a
 amount_in (Refused refused) = None
 amount_in (Unread file) = None
 
@@ -44,7 +44,7 @@ total_of rows = record { files = sum_over (λ a. a.files) rows; items = sum_over
 abbrev pub state_word : Finding → List ℕ
 state_word Absent = codes "no such log"
 state_word (Clean a) = whole_word a
-state_word (Torn a file kept cut) = codes "needs repair"
+state_word (Torn a file kept cut wrong) = codes "needs repair"
 state_word (Refused refused) = codes "refused"
 state_word (Unread file) = codes "unread"
 

@@ -1,4 +1,8 @@
 // What a check finds of a log.
+ghost use Rattle.std.specs.Prelude.{◌≡◌};
+ghost use Rattle.std.specs.Option.{option_to_list};
+ghost use Rattle.dl_tool.specs.Losses.{torn_file};
+
 use dl_types::{FileName, Refusal, Size};
 use thiserror::Error;
 
@@ -26,17 +30,37 @@ pub enum Finding {
     Absent,
     /// The log is opened as it is.
     Clean(Amount),
-    /// The log is repaired: `kept` items of `file`, its last one, are kept, and the `cut` bytes after them are cut.
+    /// The log is repaired: `kept` items of `file`, its last one, are kept, and the `cut` bytes after them are cut. It may be
+    /// marked as whole and count another number of items than it has.
     Torn {
         amount: Amount,
         file: FileName,
         kept: u64,
         cut: u64,
+        miscounted: bool,
     },
     /// The open is refused.
     Refused(Refusal),
     /// The device failed at this file, so nothing is known of the log.
     Unread(FileName),
+}
+
+impl Finding {
+    /// The last file of a log that needs a repair, if it may show losses. A file that was not begun shows none, whatever has its
+    /// name.
+    pub fn torn_file(self) -> Option<FileName>
+        ensures { option_to_list result ≡ torn_file self }
+    {
+        match self {
+            Finding::Torn {
+                file,
+                kept,
+                miscounted,
+                ..
+            } if kept > 0 || miscounted => Some(file),
+            _ => None,
+        }
+    }
 }
 
 /// Why a log was not checked.

@@ -5,7 +5,7 @@ ghost use Rattle.std.specs.Io.KnownBytes.{Appends};
 ghost use Rattle.dl_tool.specs.declared.finding.Finding.{Finding};
 ghost use Rattle.dl_tool.specs.Report.{health_of, health_by, is_clean, is_unread, FindsLog, Tells};
 ghost use Rattle.dl_tool.specs.Told.{IsTold};
-ghost use Rattle.dl_tool.specs.Zeros.{torn_file};
+ghost use Rattle.dl_tool.specs.Losses.{torn_file};
 
 use crate::check::check_log;
 use crate::finding::Finding;
@@ -45,7 +45,7 @@ impl From<AllocError> for ReportFault {
 }
 
 /// Checks each of these logs, which are not open, and writes what it finds of each, in their order. The last files of those
-/// that need a repair are added to `torn`. Nothing is changed.
+/// that need a repair are added to `torn`, if they may show losses ([`find_losses`](crate::find_losses)). Nothing is changed.
 pub fn check_logs<D: Disk, W: Write, A: Allocator + Copy>(
     alloc: A,
     disk: &mut D,
@@ -98,11 +98,11 @@ fn check_next<D: Disk, W: Write, A: Allocator + Copy>(
     Ok(found)
 }
 
-// Adds the last file of a log that needs a repair.
+// Adds the last file of a log that needs a repair, if it may show losses.
 fn push_torn<A: Allocator>(torn: &mut Vec<FileName, A>, found: Finding) -> Result<(), AllocError>
     ensures { OnOk result (torn.new.items ≡ torn.old.items ++ torn_file found) }
 {
-    if let Finding::Torn { file, .. } = found {
+    if let Some(file) = found.torn_file() {
         torn.push(file)?;
     }
     Ok(())

@@ -48,7 +48,7 @@ health_status Unread = 3
 abbrev pub finding_status : Finding → ℕ
 finding_status finding.Absent = 1
 finding_status (finding.Clean amount) = if (amount.bad == 0) && (amount.miscounted == 0) then 0 else 1
-finding_status (finding.Torn amount file kept cut) = 1
+finding_status (finding.Torn amount file kept cut wrong) = 1
 finding_status (finding.Refused refusal) = 1
 finding_status (finding.Unread file) = 3
 

@@ -168,7 +168,7 @@ fn check_folder(
     Ok(status)
 }
 
-/// Checks these logs. The last files of those that need a repair are added to `torn`.
+/// Checks these logs. The last files of those that need a repair are added to `torn`, if they may show losses.
 pub fn check_these(
     rt: &HostRuntime,
     disk: &mut FolderOfLogs,

@@ -5,7 +5,7 @@ use Rattle.dl_tool.specs.declared.line.LogFiles.{LogFiles}
 use Rattle.dl_tool.specs.declared.report.Tally.{Tally}
 use Rattle.dl_tool.specs.Report.{is_clean, is_unread, Tells}
 use Rattle.dl_types.specs.declared.file.FileName.{FileName}
-use Rattle.dl_tool.specs.Zeros.{torn_file}
+use Rattle.dl_tool.specs.Losses.{torn_file}
 use Rattle.dl_tool.proofs.Tellings.{tells_none, tells_more, all_more, any_more}
 use Rattle.dl_tool.proofs.report.check_logs.Goals as goal
 

@@ -2,7 +2,7 @@ use Rattle.std.proofs.Common.{◌≡◌, ◌++◌, List, IsTrue, take}
 use Rattle.std.specs.List.{list_all, list_any, flat_map}
 use Rattle.dl_tool.specs.declared.finding.Finding.{Finding}
 use Rattle.dl_tool.specs.Report.{is_clean, is_unread, Tells}
-use Rattle.dl_tool.specs.Zeros.{torn_file}
+use Rattle.dl_tool.specs.Losses.{torn_file}
 use Rattle.dl_tool.proofs.report.check_logs.Given as goal
 
 -- the logs so far were reported
