@@ -1,7 +1,7 @@
 """Cuts the power of random scripts at random places, and judges what the device may have then.
 
   python3 tools/powercut [PROGRAM] [--seed N] [--scripts N] [--states N] [--findings N] [--scratch DIR] [--keep DIR]
-                         [--harder] [--strict] [--unsynced-rolls] [--without SYNCS]
+                         [--harder] [--unsynced-rolls] [--without SYNCS]
   python3 tools/powercut [PROGRAM] --self-test
 
 PROGRAM is a built dlog, crates/dlog/out/dlog if it is not given. A script is one to three lives of a folder. A life is one to
@@ -23,11 +23,11 @@ What is judged is what docs/DURABILITY.md promises, with the syncs at rolls (`pr
 5. `dlog check` and `dlog run` say of the files what these say by docs/FORMAT.md, and an open with a close leaves them whole.
 
 --harder has a harder file system (`device.py`). --keep writes the files of the first finding into folders in DIR: those that its
-life began with, and those that the cut left. Where a repair has cut a file and the cut is not on the device, bytes that are not
-there may read as those that were cut: an item with such bytes is counted, and with --strict it is wrong.
+life began with, and those that the cut left.
 
-With --unsynced-rolls the program makes no syncs at rolls, and with --without `rolls`, `asked`, `drafts` or `names` syncs are left
-out of the record: those before an index or a new name, those of files in `sync` lines, those of files that are put, or those of
+With --unsynced-rolls the program makes no syncs at rolls or cuts, and bytes that are not there may read as those that an open had
+cut. With --without `rolls`, `asked`, `cuts`, `drafts` or `names` syncs are left out of the record: those before an index or a new
+name, those of files in `sync` lines, those of files that are cut, those of files that are put, or those of
 the folder. Then losses have to be seen. --self-test tries each of these until it sees one: its status is 0 if it always does, and
 1 if not.
 
@@ -54,9 +54,8 @@ from promises import Judge, cut_at
 from sittings import Sittings
 from truth import Told, all_found, all_sure
 
-# The kinds of syncs that may be left out of a record: the kind of the change, and whether those of `sync` lines are meant or the
-# others, where not both are.
-PLANTS = {"rolls": ("sync", False), "asked": ("sync", True), "drafts": ("draft", None), "names": ("names", None)}
+# The syncs that may be left out of a record.
+PLANTS = ("rolls", "asked", "cuts", "drafts", "names")
 # How many states are judged of each cut.
 STATES_OF_CUT = 3
 MOST_SCRIPTS_OF_SELF_TEST = 40
@@ -82,6 +81,21 @@ class Finding:
     texts: dict
 
 
+def syncs_of(changes, lines):
+    """For each change which sync it is, or None."""
+    last = None
+    for change in changes:
+        if change.kind in ("draft", "names"):
+            yield {"draft": "drafts", "names": "names"}[change.kind]
+        elif change.kind != "sync":
+            yield None
+        elif lines[change.line].text.split(" ")[1:2] == ["sync"]:
+            yield "asked"
+        else:
+            yield "cuts" if last.kind == "cut" and last.file == change.file else "rolls"
+        last = change
+
+
 class Trials:
     """Lives of folders, and counts of what was judged."""
 
@@ -89,7 +103,7 @@ class Trials:
         self.program = program
         self.scratch = scratch
         self.words = words
-        self.judge = Judge(not words.strict)
+        self.judge = Judge(words.unsynced_rolls)
         self.counts = Counter()
 
     def live(self, texts, sittings):
@@ -108,17 +122,10 @@ class Trials:
                 if answer != life.lines[-1].answer:
                     raise record.Broken(f"{line}: {answer[:200]}, and not {life.lines[-1].answer[:200]}")
             sure = told.sure
-        life.changes = [change for change in recorder.changes if not self.is_left_out(change, life.lines)]
+        syncs = syncs_of(recorder.changes, life.lines)
+        life.changes = [change for change, sync in zip(recorder.changes, syncs) if sync is None or sync != self.words.without]
         self.check_record(life, record.there(folder))
         return life
-
-    def is_left_out(self, change, lines):
-        """Whether a sync is one that is planted to be missing."""
-        if self.words.without is None:
-            return False
-        kind, asked = PLANTS[self.words.without]
-        is_asked = lines[change.line].text.split(" ")[1:2] == ["sync"]
-        return change.kind == kind and asked in (None, is_asked)
 
     def check_record(self, life, texts):
         device = Device(life.texts, False)
@@ -238,8 +245,7 @@ def parsed():
     parser.add_argument("--scratch", help="where the folders are, as /dev/shm")
     parser.add_argument("--keep", help="where the files of the first finding are kept")
     parser.add_argument("--harder", action="store_true", help="a harder file system")
-    parser.add_argument("--strict", action="store_true", help="items of bytes that a repair had cut are wrong")
-    parser.add_argument("--unsynced-rolls", action="store_true", help="the program makes no syncs at rolls")
+    parser.add_argument("--unsynced-rolls", action="store_true", help="the program makes no syncs at rolls or cuts")
     parser.add_argument("--without", choices=PLANTS, help="which syncs are left out of the record")
     parser.add_argument("--self-test", action="store_true", help="whether losses are seen where syncs are missing")
     return parser.parse_args()
