@@ -75,12 +75,7 @@ fn tell_losses<D: Disk>(
 }
 
 // Reports what a file shows of items that were lost.
-fn tell_loss(
-    file: FileName,
-    losses: Losses,
-    style: Style,
-    output: &mut Vec<u8>,
-) -> io::Result<()> {
+fn tell_loss(file: FileName, losses: Losses, style: Style, output: &mut Vec<u8>) -> io::Result<()> {
     let Losses {
         items,
         counted,
