@@ -28,7 +28,7 @@ pub use about::describe_log;
 pub use begin::files_in_way;
 pub use check::check_log;
 pub use copy::{CopyFault, copy_bad};
-pub use finding::{Amount, Finding};
+pub use finding::{Amount, CheckFault, Finding};
 pub use folder::{find_logs, logs_named};
 pub use law::clean_is_opened;
 pub use line::LogFiles;

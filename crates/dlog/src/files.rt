@@ -54,8 +54,8 @@ pub fn tell_losses(
     Ok(())
 }
 
-// Reports what a file shows of items that were lost.
-fn tell_loss(
+/// Reports what a file shows of items that were lost.
+pub fn tell_loss(
     rt: &HostRuntime,
     file: FileName,
     losses: Losses,
