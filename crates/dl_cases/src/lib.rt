@@ -4,6 +4,7 @@
 mod alone;
 mod answer;
 mod case;
+mod checked;
 mod fault;
 mod fuse;
 mod heap;

@@ -1,5 +1,6 @@
 // The commands on a folder of logs, as a case uses them after the lines of a hub.
 use crate::case::Tool;
+use crate::checked::{style_of, tell_losses, tell_strays};
 use crate::fault::CaseFault;
 use dl_disk::{Disk, ListFault};
 use dl_hub::Hub;
@@ -7,11 +8,8 @@ use dl_pipe::{
     AppendArgs, Appended, Closing, Cut, DumpArgs, Form, Gap, Mended, PipeFault, Source, Spot,
     Syncs, append_items, dump_log, repair_log,
 };
-use dl_tool::{
-    LogFiles, Losses, Style, check_logs, describe_log, find_logs, find_losses, find_strays,
-    list_logs, logs_named,
-};
-use dl_types::{Base, FileName, Item, Kind, Name, Size};
+use dl_tool::{LogFiles, check_logs, describe_log, find_logs, list_logs, logs_named};
+use dl_types::{Base, Item, Kind, Name, Size};
 use std::alloc::Global;
 use std::io;
 use std::io::Write;
@@ -43,83 +41,6 @@ pub fn tell_of<D: Disk>(
             Ok(None)
         }
         _ => Ok(Some(log_of(alloc, &found, others)?)),
-    }
-}
-
-// Reports the files that belong to no log, as a check does.
-fn tell_strays<D: Disk>(
-    alloc: Global,
-    disk: &mut D,
-    style: Style,
-    output: &mut Vec<u8>,
-) -> Result<(), CaseFault> {
-    for file in &find_strays(alloc, disk)? {
-        tell_file(*file, style, "stray", "no index names it", output)?;
-    }
-    Ok(())
-}
-
-// Reports what these files, the last ones of logs that need a repair, show of items that were lost, as a check does.
-fn tell_losses<D: Disk>(
-    alloc: Global,
-    disk: &mut D,
-    files: &[FileName],
-    style: Style,
-    output: &mut Vec<u8>,
-) -> Result<(), CaseFault> {
-    for file in files {
-        let losses = find_losses(alloc, disk, *file).map_err(|_| CaseFault::Tool)?;
-        tell_loss(*file, losses, style, output)?;
-    }
-    Ok(())
-}
-
-// Reports what a file shows of items that were lost.
-fn tell_loss(file: FileName, losses: Losses, style: Style, output: &mut Vec<u8>) -> io::Result<()> {
-    let Losses {
-        items,
-        counted,
-        zeros,
-    } = losses;
-    if let Some(counted) = counted {
-        match style {
-            Style::Line => writeln!(
-                output,
-                "{file} miscounted: it was closed with {counted} items and has {items}"
-            )?,
-            Style::Json => writeln!(
-                output,
-                "{{\"file\":\"{file}\",\"state\":\"miscounted\",\"counted\":{counted},\"items\":{items}}}"
-            )?,
-        }
-    }
-    if zeros {
-        let why = "its last item has no byte but zeros";
-        tell_file(file, style, "zeros", why, output)?;
-    }
-    Ok(())
-}
-
-// Reports a file by a word for what was found, as a check does.
-fn tell_file(
-    file: FileName,
-    style: Style,
-    word: &str,
-    why: &str,
-    output: &mut Vec<u8>,
-) -> io::Result<()> {
-    match style {
-        Style::Line => writeln!(output, "{file} {word}: {why}"),
-        Style::Json => writeln!(output, "{{\"file\":\"{file}\",\"state\":\"{word}\"}}"),
-    }
-}
-
-// The style of the report of a check.
-fn style_of(others: &str) -> Style {
-    if others == "--json" {
-        Style::Json
-    } else {
-        Style::Line
     }
 }
 

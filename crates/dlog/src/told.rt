@@ -45,7 +45,10 @@ pub fn tell_missing(rt: &HostRuntime, place: Place<'_>) -> ExitCode {
         ),
         FAILED,
     );
-    say(rt, format_args!("dlog check {folder} {log} tells how it stands"));
+    say(
+        rt,
+        format_args!("dlog check {folder} {log} tells how it stands"),
+    );
     told
 }
 
