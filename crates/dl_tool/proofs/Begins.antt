@@ -34,7 +34,7 @@ any_to (x ∷ xs) f has = by (any_to xs f) (Contains-append_cases (x ∷ []) xs 
 abbrev is_own : Base → FileName → Bool
 is_own base f = same_base f.base base
 
-own_from : (base : Base) (names : List FileName) (f : FileName) → Contains (filter (is_own base) names) f → Contains names f × f.base ≡ base
+pub own_from : (base : Base) (names : List FileName) (f : FileName) → Contains (filter (is_own base) names) f → Contains names f × f.base ≡ base
 own_from base [] f has = absurd (omega (arith, has.1))
 own_from base (x ∷ xs) f has = by (own_from base xs f) (is_own base x) refl has
   where
@@ -51,7 +51,7 @@ own_from base (x ∷ xs) f has = by (own_from base xs f) (is_own base x) refl ha
     by known true own h = pick known own (Contains-append_cases (x ∷ []) (filter (is_own base) xs) f h)
     by known false own h = more (known h)
 
-own_to : (base : Base) (names : List FileName) (f : FileName) → Contains names f → f.base ≡ base → Contains (filter (is_own base) names) f
+pub own_to : (base : Base) (names : List FileName) (f : FileName) → Contains names f → f.base ≡ base → Contains (filter (is_own base) names) f
 own_to base [] f has own = absurd (omega (arith, has.1))
 own_to base (x ∷ xs) f has own = by (λ had. own_to base xs f had own) (Contains-append_cases (x ∷ []) xs f has)
   where

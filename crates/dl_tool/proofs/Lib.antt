@@ -11,3 +11,5 @@ pub mod Strays
 pub mod Opened
 pub mod LastItems
 pub mod Begins
+pub mod Newers
+pub mod Closeds

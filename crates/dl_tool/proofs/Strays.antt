@@ -1,6 +1,6 @@
 -- The strays of a list of files.
 use Rattle.std.proofs.Common.{◌≡◌, ◌⊎◌, inl, inr, ℕ, List, [], ◌∷◌, ◌++◌, Bool, true, false, cond, Option, Some, Result, IsTrue, refl, sym, ◌∙◌, ap, subst, arith}
-use Rattle.std.specs.Prelude.{◌↔◌, not, IsSome}
+use Rattle.std.specs.Prelude.{◌↔◌, not, filter, IsSome}
 use Rattle.std.specs.FinMap as map
 use Rattle.std.specs.List.{Contains}
 use Rattle.std.proofs.lemmas.List.Elements.{Contains-append_left, Contains-append_right, Contains-append_cases}
@@ -9,6 +9,7 @@ use Rattle.dl_types.specs.declared.file.FileName.{FileName}
 use Rattle.dl_types.specs.declared.file.Part.{Part}
 use Rattle.dl_types.specs.declared.file.Part.TheVariants as part
 use Rattle.dl_types.specs.FileName.{Content}
+use Rattle.dl_types.specs.Name.{same_base}
 use Rattle.dl_disk.specs.Disk.{DiskState, IsUncounted}
 use Rattle.dl_disk.proofs.Acts.{acts_later}
 use Rattle.dl_index.specs.declared.entry.Entry.{Entry}
@@ -21,7 +22,8 @@ use Rattle.dl_tool.specs.declared.named.Named.{Named}
 use Rattle.dl_tool.specs.declared.named.Named.TheVariants as named
 use Rattle.dl_tool.specs.Named.{index_of, leaves_out, names_number, IsLeftOut, IsNamed, Knows, LeavesOut}
 use Rattle.dl_tool.specs.Reads.{OnlyReads, ReadsLog}
-use Rattle.dl_tool.specs.Stray.{ArePicked, AreStrays}
+use Rattle.dl_tool.specs.Stray.{ArePicked, AreStrays, AreStraysOf}
+use Rattle.dl_tool.proofs.Begins.{own_from, own_to}
 use Rattle.dl_tool.proofs.Logs.{one_of, the_one}
 use Rattle.std.proofs.lemmas.Bool.{not-true}
 
@@ -82,6 +84,15 @@ module _ (content : Content) where
   pub strays_are : (names files : List FileName) → ((f : FileName) → Contains names f ↔ IsSome (map.get content f)) → ArePicked content names files → AreStrays content files
   strays_are names files listed picked f =
       ((λ has. let p = (picked f).0 has in record { there = (listed f).0 p.0; unnamed = p.1 }), (λ s. (picked f).1 ((listed f).1 s.there, s.unnamed)))
+
+  pub strays_of : (base : Base) (names files : List FileName) → ((f : FileName) → Contains names f ↔ IsSome (map.get content f)) → ArePicked content (filter (λ f. same_base f.base base) names) files → AreStraysOf content base files
+  strays_of base names files listed picked f = (
+    (λ has.
+        let p = (picked f).0 has in
+        let own = own_from base names f p.0 in
+        (own.1, record { there = (listed f).0 own.0; unnamed = p.1 })),
+    (λ s. (picked f).1 (own_to base names f ((listed f).1 s.1.there) s.0, s.1.unnamed)),
+  )
 
 -- ---- what the reading does to a disk
 

@@ -12,6 +12,9 @@ pub mod About
 pub mod Copy
 pub mod Named
 pub mod Stray
+pub mod Newer
+pub mod Closed
 pub mod Zeros
 pub mod Losses
+pub mod Notes
 pub mod Begin

@@ -1,6 +1,7 @@
 -- Files of a folder that belong to no log.
-use Rattle.std.specs.Prelude.{◌↔◌, IsSome, Contains, List}
+use Rattle.std.specs.Prelude.{◌≡◌, ◌↔◌, IsSome, Contains, List}
 use Rattle.std.specs.FinMap as map
+use Rattle.dl_types.specs.declared.name.Base.{Base}
 use Rattle.dl_types.specs.declared.file.FileName.{FileName}
 use Rattle.dl_types.specs.FileName.{Content}
 use Rattle.dl_disk.specs.declared.fault.ListFault.{ListFault}
@@ -19,6 +20,10 @@ pub record IsStray (content : Content) (f : FileName) : Type 0 where
 -- these are all of them
 abbrev pub AreStrays : Content → List FileName → Type 0
 AreStrays content files = (f : FileName) → Contains files f ↔ IsStray content f
+
+-- these are all of them that have this base
+abbrev pub AreStraysOf : Content → Base → List FileName → Type 0
+AreStraysOf content base files = (f : FileName) → Contains files f ↔ ((f.base ≡ base) × IsStray content f)
 
 -- these are all numbered files of these names that no index names
 abbrev pub ArePicked : Content → List FileName → List FileName → Type 0

@@ -43,8 +43,8 @@ fn main_file(log: LogFiles) -> FileName
     }
 }
 
-// Those of these files that have this base.
-fn of_base<A: Allocator>(
+/// Those of these files that have this base.
+pub(crate) fn of_base<A: Allocator>(
     alloc: A,
     names: &[FileName],
     base: Base,

@@ -5,13 +5,14 @@ ghost use Rattle.dl_disk.specs.Disk.{Rises};
 ghost use Rattle.dl_tool.specs.declared.stray.StrayFault.TheVariants as stray;
 ghost use Rattle.dl_tool.specs.Named.{index_of, IsLeftOut, Knows};
 ghost use Rattle.dl_tool.specs.Reads.{OnlyReads, ReadsLog};
-ghost use Rattle.dl_tool.specs.Stray.{list_fault, stray_fault, ArePicked, AreStrays};
+ghost use Rattle.dl_tool.specs.Stray.{list_fault, stray_fault, ArePicked, AreStrays, AreStraysOf};
 
+use crate::begin::of_base;
 use crate::finding::CheckFault;
 use crate::folder::sorted_names;
 use crate::named::{Known, known_of, leaves_out};
 use dl_disk::{Disk, ListFault};
-use dl_types::{FileName, Part};
+use dl_types::{Base, FileName, Part};
 use std::alloc::{AllocError, Allocator};
 use thiserror::Error;
 
@@ -70,6 +71,21 @@ pub fn find_strays<D: Disk, A: Allocator + Copy>(
 {
     let names = sorted_names(alloc, disk)?;
     strays_in(alloc, disk, names.as_slice())
+}
+
+/// The strays of a folder that have this base, in order of number. The index of the base alone is read.
+pub fn find_strays_of<D: Disk, A: Allocator + Copy>(
+    alloc: A,
+    disk: &mut D,
+    base: Base,
+) -> Result<Vec<FileName, A>, StrayFault>
+    ensures reads { OnlyReads (D.state disk.old) (D.state disk.new) }
+    ensures device { (f : FileName) → result ≡ Err (StrayFault.Device f) → Rises ((D.state disk.old).faults f.base) ((D.state disk.new).faults f.base) }
+    ensures strays { IsTrue (D.state disk.new).honest → IfOk result (λ files. AreStraysOf (D.state disk.old).content base files.items) }
+{
+    let names = sorted_names(alloc, disk)?;
+    let own = of_base(alloc, names.as_slice(), base)?;
+    strays_in(alloc, disk, own.as_slice())
 }
 
 // The strays of these files.

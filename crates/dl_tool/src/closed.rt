@@ -1,0 +1,73 @@
+// What the last file of a log was closed with.
+ghost use Rattle.std.specs.Prelude.{◌≡◌, ◌↔◌, Some, IsTrue, IfOk};
+ghost use Rattle.dl_types.specs.declared.file.FileName.{FileName};
+ghost use Rattle.dl_tool.specs.declared.closed.Closed.{Closed};
+ghost use Rattle.dl_tool.specs.Closed.{closed_count, IsClosed, IsLast};
+ghost use Rattle.dl_tool.specs.Reads.{ReadsLog};
+
+use crate::finding::CheckFault;
+use crate::head::head_of;
+use crate::line::LogFiles;
+use crate::named::{Named, known_of};
+use dl_disk::Disk;
+use dl_types::{FileName, Head, Kind, Mark, Version};
+use std::alloc::Allocator;
+
+/// The last file of a log, and how many items it was closed with.
+#[derive(Clone, Copy, Debug, PartialEq, Eq)]
+pub struct Closed {
+    pub file: FileName,
+    pub items: u64,
+}
+
+/// What the last file of a log was closed with, by its head alone. None if there is no such file, it is marked as that of an open
+/// log, or its layout counts no items. Nothing is changed.
+pub fn find_closed<D: Disk, A: Allocator + Copy>(
+    alloc: A,
+    disk: &mut D,
+    log: LogFiles,
+) -> Result<Option<Closed>, CheckFault>
+    ensures reads { ReadsLog log.base (D.state disk.old) (D.state disk.new) result }
+    ensures closed { IsTrue (D.state disk.new).honest → IfOk result (λ found. (closed : Closed) → (found ≡ Some closed) ↔ IsClosed (D.state disk.old).content log closed) }
+{
+    let Some(file) = last_file(alloc, disk, log)? else {
+        return Ok(None);
+    };
+    let Some(head) = head_of(disk, file)? else {
+        return Ok(None);
+    };
+    let Some(items) = closed_count(head) else {
+        return Ok(None);
+    };
+    Ok(Some(Closed { file, items }))
+}
+
+// The last file of a log. None if its index is not there, or is none.
+fn last_file<D: Disk, A: Allocator + Copy>(
+    alloc: A,
+    disk: &mut D,
+    log: LogFiles,
+) -> Result<Option<FileName>, CheckFault>
+    ensures reads { ReadsLog log.base (D.state disk.old) (D.state disk.new) result }
+    ensures own { IfOk result (λ found. (f : FileName) → found ≡ Some f → f.base ≡ log.base) }
+    ensures last { IsTrue (D.state disk.new).honest → IfOk result (λ found. (f : FileName) → (found ≡ Some f) ↔ IsLast (D.state disk.old).content log f) }
+{
+    let Kind::Wrap = log.kind else {
+        return Ok(Some(FileName::halt(log.base)));
+    };
+    let known = known_of(alloc, disk, None, log.base)?;
+    let Named::Index(index) = &known.named else {
+        return Ok(None);
+    };
+    Ok(Some(FileName::numbered(log.base, index.current().number)))
+}
+
+// How many items a file with this head was closed with.
+fn closed_count(head: Head) -> Option<u64>
+    ensures { result ≡ closed_count head }
+{
+    match (head.version, head.mark) {
+        (Version::Second, Mark::Shut) => Some(head.count),
+        _ => None,
+    }
+}
