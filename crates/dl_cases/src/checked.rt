@@ -1,11 +1,9 @@
 // What a check tells of the files of logs, as the command does.
 use crate::fault::CaseFault;
 use dl_disk::Disk;
-use dl_tool::{Losses, Style, find_losses, find_strays};
+use dl_tool::{Style, find_losses, find_strays, is_newer, push_losses, push_stray};
 use dl_types::FileName;
 use std::alloc::Global;
-use std::io;
-use std::io::Write;
 
 /// Reports the files that belong to no log.
 pub fn tell_strays<D: Disk>(
@@ -15,7 +13,8 @@ pub fn tell_strays<D: Disk>(
     output: &mut Vec<u8>,
 ) -> Result<(), CaseFault> {
     for file in &find_strays(alloc, disk)? {
-        tell_file(*file, style, "stray", "no index names it", output)?;
+        let newer = is_newer(alloc, disk, *file).map_err(|_| CaseFault::Tool)?;
+        push_stray(output, style, *file, newer)?;
     }
     Ok(())
 }
@@ -30,49 +29,9 @@ pub fn tell_losses<D: Disk>(
 ) -> Result<(), CaseFault> {
     for file in files {
         let losses = find_losses(alloc, disk, *file).map_err(|_| CaseFault::Tool)?;
-        tell_loss(*file, losses, style, output)?;
+        push_losses(output, style, *file, losses)?;
     }
     Ok(())
-}
-
-// Reports what a file shows of items that were lost.
-fn tell_loss(file: FileName, losses: Losses, style: Style, output: &mut Vec<u8>) -> io::Result<()> {
-    let Losses {
-        items,
-        counted,
-        zeros,
-    } = losses;
-    if let Some(counted) = counted {
-        match style {
-            Style::Line => writeln!(
-                output,
-                "{file} miscounted: it was closed with {counted} items and has {items}"
-            )?,
-            Style::Json => writeln!(
-                output,
-                "{{\"file\":\"{file}\",\"state\":\"miscounted\",\"counted\":{counted},\"items\":{items}}}"
-            )?,
-        }
-    }
-    if zeros {
-        let why = "its last item has no byte but zeros";
-        tell_file(file, style, "zeros", why, output)?;
-    }
-    Ok(())
-}
-
-// Reports a file by a word for what was found.
-fn tell_file(
-    file: FileName,
-    style: Style,
-    word: &str,
-    why: &str,
-    output: &mut Vec<u8>,
-) -> io::Result<()> {
-    match style {
-        Style::Line => writeln!(output, "{file} {word}: {why}"),
-        Style::Json => writeln!(output, "{{\"file\":\"{file}\",\"state\":\"{word}\"}}"),
-    }
 }
 
 /// The style of the report, by the words of the command.

@@ -1,5 +1,5 @@
 -- What the digests of a log are of.
-use Rattle.std.specs.Prelude.{◌≡◌, ◌⊎◌, ◌-◌, ◌^◌, false, List, None, map}
+use Rattle.std.specs.Prelude.{◌≡◌, ◌⊎◌, ◌-◌, ◌^◌, ℕ, false, List, None, Some, map}
 use Rattle.dl_types.specs.declared.name.Name.{Name}
 use Rattle.dl_types.specs.declared.reply.Outcome.{Outcome}
 use Rattle.dl_types.specs.declared.reply.Reply.TheVariants as reply
@@ -20,6 +20,10 @@ use Rattle.dl_digest.specs.Files.{by_file, file_digest, parts_of}
 -- all items of a log
 abbrev pub whole_args : Kind → DigestArgs
 whole_args kind = record { kind = kind; from = None; most = 2 ^ 64 - 1 }
+
+-- the first `items` items from the front of the file of a generation on
+abbrev pub front_args : Kind → ℕ → ℕ → DigestArgs
+front_args kind generation items = record { kind = kind; from = Some (record { generation = generation; before = 0 }); most = items }
 
 -- the raw dump of the same items
 abbrev pub dump_args : DigestArgs → DumpArgs

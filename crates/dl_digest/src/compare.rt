@@ -4,13 +4,14 @@ ghost use Rattle.std.specs.List.{filter};
 ghost use Rattle.dl_types.specs.Name.{same_name};
 ghost use Rattle.dl_digest.specs.Compare.{digest_at, is_file, Agrees, AreCompared, HasKept, IsCompared, IsFileCompared, IsGrown, IsHeld, IsLogCompared};
 
+use crate::absent::compare_absent;
 use crate::digest::ItemsDigest;
 use crate::files::FileDigest;
 use crate::line::{DigestLine, Extent};
 use crate::log::{DigestArgs, LogDigests, digest_log};
 use dl_disk::Disk;
 use dl_hub::Hub;
-use dl_pipe::{PipeFault, Spot};
+use dl_pipe::PipeFault;
 use dl_types::{Kind, Name};
 use std::alloc::{AllocError, Allocator};
 
@@ -19,9 +20,9 @@ use std::alloc::{AllocError, Allocator};
 pub enum Verdict {
     /// They have this digest still.
     Same,
-    /// Their file is not there: it gave way to another, or was emptied.
+    /// Neither their file nor an older one is there: it gave way to another, or the log was emptied.
     Gone,
-    /// There are fewer items.
+    /// There are fewer items, or none.
     Shorter,
     /// They have another digest.
     Changed,
@@ -144,11 +145,11 @@ fn compare_file<D: Disk + Drop, A: Allocator + Copy>(
     files: &[FileDigest],
     kept: FileDigest,
 ) -> Result<Verdict, PipeFault>
-    ensures { IfOk result (λ verdict. IsFileCompared D.state A log kind (digest_at kept.generation files.now) kept.digest kept.generation verdict hub.old hub.new) }
+    ensures { IfOk result (λ verdict. IsFileCompared D.state A log kind files.now (digest_at kept.generation files.now) kept.digest kept.generation verdict hub.old hub.new) }
 {
     let FileDigest { generation, digest } = kept;
     let Some(own) = digest_at(generation, files) else {
-        return Ok(Verdict::Gone);
+        return compare_absent(alloc, hub, kind, log, files, kept);
     };
     match compare(digest, own) {
         Some(verdict) => Ok(verdict),
@@ -167,15 +168,12 @@ fn compare_grown<D: Disk + Drop, A: Allocator + Copy>(
 ) -> Result<Verdict, PipeFault>
     ensures { IfOk result (λ verdict. IsGrown D.state A log kind kept generation verdict hub.old hub.new) }
 {
-    let args = DigestArgs {
-        kind,
-        from: Some(Spot {
-            generation,
-            before: 0,
-        }),
-        most: kept.items,
-    };
-    let front = digest_log(alloc, hub, log, args)?;
+    let front = digest_log(
+        alloc,
+        hub,
+        log,
+        DigestArgs::front(kind, generation, kept.items),
+    )?;
     Ok(compare_front(kept, front.all))
 }
 

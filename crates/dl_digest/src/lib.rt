@@ -1,6 +1,7 @@
 //! Digests of the items of a log. A digest that was taken before shows a byte that changed since.
 #![tactic(auto)]
 
+mod absent;
 mod compare;
 mod digest;
 mod files;

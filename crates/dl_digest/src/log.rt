@@ -1,7 +1,7 @@
 // The digests of a log.
 ghost use Rattle.std.specs.Prelude.{◌≡◌, ◌⊎◌, IfOk, IfErr};
 ghost use Rattle.dl_pipe.specs.Dump.{IsUnopened};
-ghost use Rattle.dl_digest.specs.Log.{whole_args, dump_args, IsDigested, IsCut};
+ghost use Rattle.dl_digest.specs.Log.{whole_args, front_args, dump_args, IsDigested, IsCut};
 
 use crate::digest::ItemsDigest;
 use crate::files::FileDigest;
@@ -32,6 +32,21 @@ impl DigestArgs {
             kind,
             from: None,
             most: u64::MAX,
+        }
+    }
+
+    /// The first `items` items from the front of the file of this generation on.
+    pub fn front(kind: Kind, generation: u64, items: u64) -> DigestArgs
+        ensures { result ≡ front_args kind generation items }
+    {
+        let front = Spot {
+            generation,
+            before: 0,
+        };
+        DigestArgs {
+            kind,
+            from: Some(front),
+            most: items,
         }
     }
 }

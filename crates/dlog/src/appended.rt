@@ -7,7 +7,8 @@ use crate::closed::{tell_finished, tell_lingering};
 use crate::faults::{Failure, Place, advise, say, tell_failure};
 use crate::noted::Why;
 use crate::{FAILED, tell};
-use dl_pipe::{Appended, Closing, PipeFault, Source, Stage, Stop, Syncs};
+use dl_pipe::{Appended, Closing, Cut, PipeFault, Source, Stage, Stop, Syncs};
+use dl_tool::Closed;
 use dl_types::Refusal;
 use std::process::ExitCode;
 
@@ -17,6 +18,8 @@ pub struct Report<'a> {
     pub place: Place<'a>,
     pub source: Source,
     pub syncs: Syncs,
+    /// What the last file of the log was closed with, if it was closed.
+    pub closed: Option<Closed>,
 }
 
 /// Says what an append came to, unless all items were logged, nothing was repaired, and the device did not fail.
@@ -41,9 +44,7 @@ fn tell_appended(rt: &HostRuntime, report: Report<'_>, why: Why, appended: Appen
 {
     let log = report.place.log;
     if let Some(cut) = appended.repair {
-        let kept = cut.kept;
-        let bytes = cut.bytes;
-        let _ = eprintln!(rt; "dlog: {log}: repaired: {kept} items kept, {bytes} bytes cut");
+        tell_repair(rt, report, cut);
     }
     if let Closing::Finished(file) = appended.closing {
         tell_finished(rt, log, file);
@@ -52,6 +53,18 @@ fn tell_appended(rt: &HostRuntime, report: Report<'_>, why: Why, appended: Appen
         Some(stop) => tell_stop(rt, report, why, stop, appended),
         None => ExitCode::SUCCESS,
     }
+}
+
+// Says what was repaired, and with how many items the last file was closed, if that was another number of them.
+fn tell_repair(rt: &HostRuntime, report: Report<'_>, cut: Cut) {
+    let log = report.place.log;
+    let Cut { kept, bytes } = cut;
+    let _ = match report.closed {
+        Some(Closed { file, items }) if items != kept => eprintln!(rt;
+            "dlog: {log}: repaired: {kept} items kept, {bytes} bytes cut; {file} was closed with {items} items"
+        ),
+        _ => eprintln!(rt; "dlog: {log}: repaired: {kept} items kept, {bytes} bytes cut"),
+    };
 }
 
 // Says where an append stopped, which of the items that it took are kept, and what to do.

@@ -1,13 +1,14 @@
 // Whether a log may be begun.
 use crate::faults::Place;
 use crate::folder::{FolderOfLogs, tell_unlisted};
-use crate::{FAILED, tell};
-use dl_tool::{LogFiles, files_in_way};
+use crate::{FAILED, UNREAD, tell};
+use dl_tool::{LogFiles, files_in_way, find_strays_of, is_newer};
 use dl_types::{Base, FileName, Kind, Part};
 use std::process::ExitCode;
 
 /// Whether a log may be opened to be written, which begins it if it is not there. It may not be begun where a log of the other
-/// kind has its name, or files that no index names: an `Err` is the status after a message on them.
+/// kind has its name, or files that no index names, and not be written where such files are newer than its index: an `Err` is the
+/// status after a message on them.
 pub fn may_open(
     rt: &HostRuntime,
     disk: &mut FolderOfLogs,
@@ -23,9 +24,46 @@ pub fn may_open(
         Err(fault) => return Err(tell_unlisted(rt, place.folder, fault)),
     };
     match files.as_slice() {
-        [] => Ok(()),
+        [] => none_is_newer(rt, disk, place, log),
         [first, ..] => Err(tell_in_way(rt, place, *first, &files)),
     }
+}
+
+// Whether no file is newer than the index of a wrap log. Where one is, the index may be an older one, and its log would write over
+// that file.
+fn none_is_newer(
+    rt: &HostRuntime,
+    disk: &mut FolderOfLogs,
+    place: Place<'_>,
+    log: LogFiles,
+) -> Result<(), ExitCode> {
+    let Kind::Wrap = log.kind else {
+        return Ok(());
+    };
+    let strays = match find_strays_of(rt.alloc(), disk, log.base) {
+        Ok(strays) => strays,
+        Err(fault) => return Err(tell(rt, fault, UNREAD)),
+    };
+    for file in &strays {
+        match is_newer(rt.alloc(), disk, *file) {
+            Ok(false) => {}
+            Ok(true) => return Err(tell_newer(rt, place, *file)),
+            Err(fault) => return Err(tell(rt, fault, UNREAD)),
+        }
+    }
+    Ok(())
+}
+
+// Says that a file is newer than the index of its log.
+fn tell_newer(rt: &HostRuntime, place: Place<'_>, file: FileName) -> ExitCode {
+    let Place { folder, log, .. } = place;
+    tell(
+        rt,
+        format_args!(
+            "{log}: {folder}/{file} is newer than the files that the index {log}.idx names, and nothing is logged over it: the index may be an older one\nput the right index back, or move the file away: it can be read as a halt log under another name"
+        ),
+        FAILED,
+    )
 }
 
 // Says which files are in the way of a log, by the first of them.

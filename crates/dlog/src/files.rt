@@ -3,9 +3,14 @@ use crate::faults::{advise_on_file, is_refused};
 use crate::folder::{FolderOfLogs, tell_unlisted};
 use crate::{UNREAD, tell};
 use dl_disk::Disk;
-use dl_tool::{LogFiles, Losses, Style, find_losses, find_strays};
+use dl_tool::{
+    LogFiles, Losses, ReportFault, Style, find_losses, find_strays, is_newer, push_losses,
+    push_stray,
+};
 use dl_types::FileName;
+use std::alloc::AllocError;
 use std::io;
+use std::io::Write;
 use std::process::ExitCode;
 
 /// Reports the numbered files of a folder that no index names, or those of them that have a base of these logs. Returns whether
@@ -23,11 +28,27 @@ pub fn tell_strays(
     let mut is_there = false;
     for file in &strays {
         if is_asked(*file, logs) {
-            tell_file(rt, *file, style, "stray", "no index names it")?;
+            tell_stray(rt, disk, *file, style)?;
             is_there = true;
         }
     }
     Ok(is_there)
+}
+
+// Reports a file that no index names, and whether it is newer than the index of its base.
+fn tell_stray(
+    rt: &HostRuntime,
+    disk: &mut FolderOfLogs,
+    file: FileName,
+    style: Style,
+) -> Result<(), ExitCode> {
+    let newer = match is_newer(rt.alloc(), disk, file) {
+        Ok(newer) => newer,
+        Err(fault) => return Err(tell(rt, fault, UNREAD)),
+    };
+    let mut text = Vec::new(rt.alloc());
+    let told = push_stray(&mut text, style, file, newer);
+    print(rt, told, &text)
 }
 
 // Whether a file has the base of one of these logs, or is to be told whatever its base is.
@@ -61,38 +82,20 @@ pub fn tell_loss(
     losses: Losses,
     style: Style,
 ) -> Result<(), ExitCode> {
-    let Losses {
-        items,
-        counted,
-        zeros,
-    } = losses;
-    if let Some(counted) = counted {
-        tell_count(rt, file, counted, items, style)?;
-    }
-    if zeros {
-        let why = "its last item has no byte but zeros";
-        tell_file(rt, file, style, "zeros", why)?;
-    }
-    Ok(())
+    let mut text = Vec::new(rt.alloc());
+    let told = push_losses(&mut text, style, file, losses);
+    print(rt, told, &text)
 }
 
-// Reports a file that was closed with another number of items than it has.
-fn tell_count(
-    rt: &HostRuntime,
-    file: FileName,
-    counted: u64,
-    items: u64,
-    style: Style,
-) -> Result<(), ExitCode> {
-    let told = match style {
-        Style::Line => {
-            println!(rt; "{file} miscounted: it was closed with {counted} items and has {items}")
-        }
-        Style::Json => println!(rt;
-            "{{\"file\":\"{file}\",\"state\":\"miscounted\",\"counted\":{counted},\"items\":{items}}}"
-        ),
-    };
-    end_told(rt, told)
+// Prints lines that were made, or says why they were not.
+fn print(rt: &HostRuntime, made: Result<(), AllocError>, text: &[u8]) -> Result<(), ExitCode> {
+    if made.is_err() {
+        return Err(tell(rt, ReportFault::OutOfMemory, UNREAD));
+    }
+    match io::writer(rt).write_all(text) {
+        Ok(()) => Ok(()),
+        Err(error) => Err(tell(rt, format_args!("standard output: {error}"), UNREAD)),
+    }
 }
 
 /// Says which files of these logs the system refuses, and why.
@@ -113,27 +116,4 @@ pub fn tell_odd(
         }
     }
     Ok(())
-}
-
-// Reports a file by a word for what was found, which these words explain.
-fn tell_file(
-    rt: &HostRuntime,
-    file: FileName,
-    style: Style,
-    word: &str,
-    why: &str,
-) -> Result<(), ExitCode> {
-    let told = match style {
-        Style::Line => println!(rt; "{file} {word}: {why}"),
-        Style::Json => println!(rt; "{{\"file\":\"{file}\",\"state\":\"{word}\"}}"),
-    };
-    end_told(rt, told)
-}
-
-// Says why a report was not written, if it was not.
-fn end_told(rt: &HostRuntime, told: io::Result<()>) -> Result<(), ExitCode> {
-    match told {
-        Ok(()) => Ok(()),
-        Err(error) => Err(tell(rt, format_args!("standard output: {error}"), UNREAD)),
-    }
 }
