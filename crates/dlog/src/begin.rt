@@ -30,7 +30,7 @@ pub fn may_open(
 }
 
 // Whether no file is newer than the index of a wrap log. Where one is, the index may be an older one, and its log would write over
-// that file.
+// that file. An index that cannot be read is told by the open, with its reason.
 fn none_is_newer(
     rt: &HostRuntime,
     disk: &mut FolderOfLogs,
@@ -40,9 +40,8 @@ fn none_is_newer(
     let Kind::Wrap = log.kind else {
         return Ok(());
     };
-    let strays = match find_strays_of(rt.alloc(), disk, log.base) {
-        Ok(strays) => strays,
-        Err(fault) => return Err(tell(rt, fault, UNREAD)),
+    let Ok(strays) = find_strays_of(rt.alloc(), disk, log.base) else {
+        return Ok(());
     };
     for file in &strays {
         match is_newer(rt.alloc(), disk, *file) {
