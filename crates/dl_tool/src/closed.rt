@@ -1,8 +1,8 @@
 // What the last file of a log was closed with.
 ghost use Rattle.std.specs.Prelude.{◌≡◌, ◌↔◌, Some, IsTrue, IfOk};
-ghost use Rattle.dl_types.specs.declared.file.FileName.{FileName};
 ghost use Rattle.dl_tool.specs.declared.closed.Closed.{Closed};
-ghost use Rattle.dl_tool.specs.Closed.{closed_count, IsClosed, IsLast};
+ghost use Rattle.dl_tool.specs.declared.closed.LastFile.{LastFile};
+ghost use Rattle.dl_tool.specs.Closed.{closed_count, is_of, IsClosed, IsLast};
 ghost use Rattle.dl_tool.specs.Reads.{ReadsLog};
 
 use crate::finding::CheckFault;
@@ -20,8 +20,8 @@ pub struct Closed {
     pub items: u64,
 }
 
-/// What the last file of a log was closed with, by its head alone. None if there is no such file, it is marked as that of an open
-/// log, or its layout counts no items. Nothing is changed.
+/// What the last file of a log was closed with, by its head alone. None if there is no such file, a file of another generation
+/// has its name, it is marked as that of an open log, or its layout counts no items. Nothing is changed.
 pub fn find_closed<D: Disk, A: Allocator + Copy>(
     alloc: A,
     disk: &mut D,
@@ -30,16 +30,24 @@ pub fn find_closed<D: Disk, A: Allocator + Copy>(
     ensures reads { ReadsLog log.base (D.state disk.old) (D.state disk.new) result }
     ensures closed { IsTrue (D.state disk.new).honest → IfOk result (λ found. (closed : Closed) → (found ≡ Some closed) ↔ IsClosed (D.state disk.old).content log closed) }
 {
-    let Some(file) = last_file(alloc, disk, log)? else {
+    let Some(last) = last_file(alloc, disk, log)? else {
         return Ok(None);
     };
+    let file = last.file;
     let Some(head) = head_of(disk, file)? else {
         return Ok(None);
     };
-    let Some(items) = closed_count(head) else {
+    let Some(items) = closed_count(head, last.generation) else {
         return Ok(None);
     };
     Ok(Some(Closed { file, items }))
+}
+
+/// The last file of a log, and the generation that it has to have, if its index says one.
+#[derive(Clone, Copy)]
+pub(crate) struct LastFile {
+    pub(crate) file: FileName,
+    pub(crate) generation: Option<u64>,
 }
 
 // The last file of a log. None if its index is not there, or is none.
@@ -47,27 +55,47 @@ fn last_file<D: Disk, A: Allocator + Copy>(
     alloc: A,
     disk: &mut D,
     log: LogFiles,
-) -> Result<Option<FileName>, CheckFault>
+) -> Result<Option<LastFile>, CheckFault>
     ensures reads { ReadsLog log.base (D.state disk.old) (D.state disk.new) result }
-    ensures own { IfOk result (λ found. (f : FileName) → found ≡ Some f → f.base ≡ log.base) }
-    ensures last { IsTrue (D.state disk.new).honest → IfOk result (λ found. (f : FileName) → (found ≡ Some f) ↔ IsLast (D.state disk.old).content log f) }
+    ensures own { IfOk result (λ found. (last : LastFile) → found ≡ Some last → last.file.base ≡ log.base) }
+    ensures last { IsTrue (D.state disk.new).honest → IfOk result (λ found. (last : LastFile) → (found ≡ Some last) ↔ IsLast (D.state disk.old).content log last) }
 {
     let Kind::Wrap = log.kind else {
-        return Ok(Some(FileName::halt(log.base)));
+        return Ok(Some(LastFile {
+            file: FileName::halt(log.base),
+            generation: None,
+        }));
     };
     let known = known_of(alloc, disk, None, log.base)?;
     let Named::Index(index) = &known.named else {
         return Ok(None);
     };
-    Ok(Some(FileName::numbered(log.base, index.current().number)))
+    let current = index.current();
+    Ok(Some(LastFile {
+        file: FileName::numbered(log.base, current.number),
+        generation: Some(current.generation),
+    }))
 }
 
-// How many items a file with this head was closed with.
-fn closed_count(head: Head) -> Option<u64>
-    ensures { result ≡ closed_count head }
+// How many items a file with this head was closed with, if it has the generation that it has to have.
+fn closed_count(head: Head, generation: Option<u64>) -> Option<u64>
+    ensures { result ≡ closed_count generation head }
 {
+    if !is_of(head, generation) {
+        return None;
+    }
     match (head.version, head.mark) {
         (Version::Second, Mark::Shut) => Some(head.count),
         _ => None,
+    }
+}
+
+// Whether a file with this head has the generation that it has to have.
+fn is_of(head: Head, generation: Option<u64>) -> bool
+    ensures { result ≡ is_of generation head }
+{
+    match generation {
+        None => true,
+        Some(generation) => head.generation == generation,
     }
 }
