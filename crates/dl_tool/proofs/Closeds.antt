@@ -1,5 +1,5 @@
 -- The last file of a log.
-use Rattle.std.proofs.Common.{◌≡◌, ℕ, List, Option, Some, None, refl, sym, ◌∙◌, ap, subst}
+use Rattle.std.proofs.Common.{◌≡◌, ℕ, List, Option, Some, sym, ◌∙◌, ap, subst}
 use Rattle.std.specs.Prelude.{◌↔◌}
 use Rattle.dl_types.specs.declared.name.Base.{Base}
 use Rattle.dl_types.specs.declared.head.Head.{Head}
@@ -15,14 +15,9 @@ use Rattle.dl_log.proofs.Stored.{index_once}
 use Rattle.dl_tool.specs.declared.closed.Closed.{Closed}
 use Rattle.dl_tool.specs.declared.closed.LastFile.{LastFile}
 use Rattle.dl_tool.specs.declared.line.LogFiles.{LogFiles}
-use Rattle.dl_tool.specs.declared.named.Named.{Named}
-use Rattle.dl_tool.specs.declared.named.Named.TheVariants as named
 use Rattle.dl_tool.specs.Closed.{closed_count, wrap_last, IsClosed, IsLast, IsLastOf}
-use Rattle.dl_tool.specs.Named.{index_of, IsNamed}
+use Rattle.dl_tool.specs.Named.{index_of}
 use Rattle.dl_tool.proofs.Newers.{same_some, IsHeadOf}
-
-some_none : {X : Type 0} {x : X} → Some x ≡ None → ⊥
-some_none e = cc e
 
 -- what is found of the last file
 abbrev pub IsLastFound : Option LastFile → Content → LogFiles → Type 0
@@ -31,13 +26,6 @@ IsLastFound found content log = (last : LastFile) → (found ≡ Some last) ↔ 
 -- ---- of a wrap log
 
 module _ (content : Content) (base : Base) where
-  pub none_last : {Z : Type 0} (k : Named Z) → IsNamed (index_of content base) k → ((i : IndexView) → k ≡ named.Index i → ⊥) → (last : LastFile) → IsLastOf Wrap content base last → ⊥
-  none_last named.Nothing is other f last = some_none (sym last.3 ∙ is)
-  none_last named.NoIndex is other f last =
-      let same : is.0 ≡ last.0 = same_some (sym is.1 ∙ last.3) in
-      is.2 last.1 last.2 (subst (λ (t : List ℕ). IsIndex t last.1 last.2) (sym same) last.4)
-  none_last (named.Index i) is other f last = absurd (other i refl)
-
   pub current_last : (i : IndexView) (text : List ℕ) → index_of content base ≡ Some text → IsIndex text i.limits i.entries → (last : LastFile)
       → (Some (wrap_last base (current_of i.entries)) ≡ Some last) ↔ IsLastOf Wrap content base last
   current_last i text there index f = (
@@ -51,9 +39,6 @@ module _ (content : Content) (base : Base) where
 -- ---- what it was closed with
 
 module _ (content : Content) (log : LogFiles) where
-  pub fileless_not_closed : (last : Option LastFile) → IsLastFound last content log → ((f : LastFile) → last ≡ Some f → ⊥) → (closed : Closed) → IsClosed content log closed → ⊥
-  fileless_not_closed last is none closed c = none c.last ((is c.last).1 c.is_last)
-
   module _ (found_last : Option LastFile) (is : IsLastFound found_last content log) (last : LastFile) (last_is : found_last ≡ Some last) (found : Option Head) (heads : IsHeadOf found (text_at content last.file)) where
     same_last : (closed : Closed) (c : IsClosed content log closed) → c.last ≡ last
     same_last closed c = same_some (sym ((is c.last).1 c.is_last) ∙ last_is)

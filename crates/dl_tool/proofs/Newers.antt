@@ -1,5 +1,5 @@
 -- A file against the index of its base.
-use Rattle.std.proofs.Common.{◌≡◌, ◌<◌, ℕ, List, Option, Some, None, refl, sym, ◌∙◌, ap, subst, arith}
+use Rattle.std.proofs.Common.{◌≡◌, ◌<◌, ℕ, List, Option, Some, sym, ◌∙◌, ap, subst, arith}
 use Rattle.std.specs.Prelude.{◌↔◌}
 use Rattle.dl_types.specs.declared.file.FileName.{FileName}
 use Rattle.dl_types.specs.declared.head.Head.{Head}
@@ -11,13 +11,8 @@ use Rattle.dl_index.specs.Entries.{current_of}
 use Rattle.dl_index.specs.IndexText.{IsIndex}
 use Rattle.dl_index.specs.View.{IndexView}
 use Rattle.dl_log.proofs.Stored.{index_once}
-use Rattle.dl_tool.specs.declared.named.Named.{Named}
-use Rattle.dl_tool.specs.declared.named.Named.TheVariants as named
-use Rattle.dl_tool.specs.Named.{index_of, IsNamed}
+use Rattle.dl_tool.specs.Named.{index_of}
 use Rattle.dl_tool.specs.Newer.{IsNewer}
-
-some_none : {X : Type 0} {x : X} → Some x ≡ None → ⊥
-some_none e = cc e
 
 pub same_some : {X : Type 0} {x y : X} → Some x ≡ Some y → x ≡ y
 same_some e = cc e
@@ -27,14 +22,6 @@ abbrev pub IsHeadOf : Option Head → List ℕ → Type 0
 IsHeadOf found text = (says : Head) → (found ≡ Some says) ↔ IsHead text says
 
 module _ (content : Content) (f : FileName) where
-  -- no file is newer than an index that is not there, or is none
-  pub not_newer : {Z : Type 0} (k : Named Z) → IsNamed (index_of content f.base) k → ((i : IndexView) → k ≡ named.Index i → ⊥) → IsNewer content f → ⊥
-  not_newer named.Nothing is other n = some_none (sym n.there ∙ is)
-  not_newer named.NoIndex is other n =
-      let same : is.0 ≡ n.text = same_some (sym is.1 ∙ n.there) in
-      is.2 n.limits n.entries (subst (λ (t : List ℕ). IsIndex t n.limits n.entries) (sym same) n.index)
-  not_newer (named.Index i) is other n = absurd (other i refl)
-
   -- a file that begins with no head is not newer
   pub headless_not_newer : (found : Option Head) → IsHeadOf found (text_at content f) → ((says : Head) → found ≡ Some says → ⊥) → IsNewer content f → ⊥
   headless_not_newer found is none n = none n.says ((is n.says).1 n.head)

@@ -45,9 +45,9 @@ pub fn find_closed<D: Disk, A: Allocator + Copy>(
 
 /// The last file of a log, and the generation that it has to have, if its index says one.
 #[derive(Clone, Copy)]
-pub(crate) struct LastFile {
-    pub(crate) file: FileName,
-    pub(crate) generation: Option<u64>,
+pub struct LastFile {
+    pub file: FileName,
+    pub generation: Option<u64>,
 }
 
 // The last file of a log. None if its index is not there, or is none.
