@@ -1,11 +1,4 @@
 pub mod Script
 pub mod Halt
-pub mod Calls
-pub mod Heads
-pub mod Holds
-pub mod Sets
 pub mod Wrap
-pub mod Blocks
-pub mod Sent
-pub mod Faults
 pub mod Texts

@@ -3,13 +3,6 @@
 //! for them.
 #![tactic(auto)]
 
-pub mod blocks;
-pub mod calls;
-pub mod faults;
 pub mod halt;
-pub mod heads;
-pub mod holds;
-pub mod sent;
-pub mod sets;
 pub mod texts;
 pub mod wrap;
