@@ -3,7 +3,7 @@ ghost use Rattle.std.specs.Prelude.{◌≡◌, [], false};
 ghost use Rattle.std.specs.List.{list_any, IsDistinct};
 ghost use Rattle.dl_types.specs.declared.name.Name.{Name};
 ghost use Rattle.dl_types.specs.Name.{same_name};
-ghost use Rattle.dl_types.specs.Members.{owns, has_part, has_somebody, is_concerned, AreOnce};
+ghost use Rattle.dl_types.specs.Members.{owns, has_part, is_concerned, AreOnce};
 ghost use Rattle.dl_owners.specs.Listed.{is_told};
 ghost use Rattle.dl_owners.specs.Seats.{seated};
 ghost use Rattle.dl_owners.specs.Table.{members_of, owners_of, users_of};
@@ -74,12 +74,5 @@ impl<A: Allocator + Copy> Owners<A> {
         ensures { result.now ≡ (members_of self.now log).held }
     {
         self.logs.held_of(log)
-    }
-
-    /// Whether anybody has a part in a log.
-    pub fn has_anybody(&self, log: Name) -> bool
-        ensures { result ≡ has_somebody (members_of self.now log) }
-    {
-        self.logs.has_somebody(log)
     }
 }

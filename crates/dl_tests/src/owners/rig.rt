@@ -110,7 +110,6 @@ impl<A: Allocator + Copy> Rig<A> {
     pub(crate) fn has(&self, log: Name, owners: &[(u32, bool)], users: u32) -> bool {
         self.are_owners(log, owners)
             && self.owners.users_of(log) == users
-            && self.owners.has_anybody(log) == (users > 0 || !owners.is_empty())
             && owners.iter().all(|owner| self.is_owner(owner.0, log))
     }
 }
