@@ -49,9 +49,6 @@ module _ {D Z : Type 0} (state : D → DiskState) where
   abbrev pub MadeBefore : List (Waiting Z) → List (Waiting Z) → List ℕ → HubView D → HubView D → List (Waiting Z) → Type 0
   MadeBefore all rest done old mid kept = (new : HubView D) (later : List (Waiting Z)) (others : List ℕ) → AreMade state rest mid new later others → AreMade state all old new (kept ++ later) (done ++ others)
 
-  pub made_none : (all : List (Waiting Z)) (old : HubView D) → MadeBefore all all [] old old []
-  made_none all old = λ new later others made. made
-
   pub made_more : (all rest : List (Waiting Z)) (done : List ℕ) (old mid next : HubView D) (kept : List (Waiting Z)) (w : Waiting Z) (o : Outcome Z)
       → MadeBefore all (w ∷ rest) done old mid kept → IsStep state mid next w.event o
       → MadeBefore all rest (done ++ outcome_frames (is_suspended o.reply) w.tag o) old next (kept ++ kept_of (is_suspended o.reply) w)

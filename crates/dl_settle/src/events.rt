@@ -1,7 +1,7 @@
 // Whether two events are the same.
 ghost use Rattle.std.specs.Prelude.{◌≡◌, ◌↔◌, IsTrue};
 
-use dl_types::{Base, Call, Event, Item, Items, OpenArgs, Size};
+use dl_types::{Act, Base, Call, Event, Item, Items, OpenArgs, Size};
 use std::alloc::Allocator;
 
 /// Whether two events are the same.
@@ -29,19 +29,8 @@ fn same_call<A: Allocator>(a: &Call<A>, b: &Call<A>) -> bool
 {
     match (a, b) {
         (Call::Open(args), Call::Open(others)) => same_args(args, others),
-        (Call::Log(items), Call::Log(others)) => same_items(items, others),
+        (Call::Act(act), Call::Act(other)) => same_act(act, other),
         (Call::Alog(items), Call::Alog(others)) => same_items(items, others),
-        (
-            Call::Chunk { from, most },
-            Call::Chunk {
-                from: place,
-                most: n,
-            },
-        ) => { from == place && most == n }
-        (Call::ChunkStep { from, by }, Call::ChunkStep { from: place, by: n }) => {
-            from == place && by == n
-        }
-        (Call::Truncate { head }, Call::Truncate { head: other }) => same_head(head, other),
         (
             Call::Reopen { target, head },
             Call::Reopen {
@@ -49,13 +38,34 @@ fn same_call<A: Allocator>(a: &Call<A>, b: &Call<A>) -> bool
                 head: other,
             },
         ) => target == base && same_head(head, other),
-        (Call::NextFile, Call::NextFile) => true,
-        (Call::ChangeSize(size), Call::ChangeSize(other)) => size == other,
-        (Call::Sync, Call::Sync) => true,
         (Call::Block { queue }, Call::Block { queue: other }) => queue == other,
         (Call::Unblock, Call::Unblock) => true,
-        (Call::Info, Call::Info) => true,
         (Call::Close, Call::Close) => true,
+        _ => false,
+    }
+}
+
+// Whether two acts are the same.
+fn same_act<A: Allocator>(a: &Act<A>, b: &Act<A>) -> bool
+    ensures { IsTrue result ↔ (a.now ≡ b.now) }
+{
+    match (a, b) {
+        (Act::Log(items), Act::Log(others)) => same_items(items, others),
+        (
+            Act::Chunk { from, most },
+            Act::Chunk {
+                from: place,
+                most: n,
+            },
+        ) => { from == place && most == n }
+        (Act::ChunkStep { from, by }, Act::ChunkStep { from: place, by: n }) => {
+            from == place && by == n
+        }
+        (Act::Truncate { head }, Act::Truncate { head: other }) => same_head(head, other),
+        (Act::NextFile, Act::NextFile) => true,
+        (Act::ChangeSize(size), Act::ChangeSize(other)) => size == other,
+        (Act::Sync, Act::Sync) => true,
+        (Act::Info, Act::Info) => true,
         _ => false,
     }
 }
