@@ -2,6 +2,7 @@
 use Rattle.std.specs.Prelude.{◌≡◌, ◌-◌, ◌==◌, ℕ, zero, suc, List, [], ◌∷◌, length, Bool, true, false, Result, Ok, Err, if◌then◌else◌}
 use Rattle.std.specs.Int.{w16, w32, w64}
 use Rattle.dl_types.specs.declared.call.Call.{Call}
+use Rattle.dl_types.specs.declared.call.Act.TheVariants as act
 use Rattle.dl_types.specs.declared.call.Call.TheVariants as call
 use Rattle.dl_types.specs.declared.event.Event.{Event}
 use Rattle.dl_types.specs.declared.event.Event.TheVariants as event
@@ -94,35 +95,35 @@ module _ {Z : Type 0} where
     Ok (call.Open args.0, args.1)
   call_at verb.Log log bytes = do
     items ← list_at bytes
-    Ok (call.Log items.0, items.1)
+    Ok (call.Act (act.Log items.0), items.1)
   call_at verb.Alog log bytes = do
     items ← list_at bytes
     Ok (call.Alog items.0, items.1)
   call_at verb.Chunk log bytes = do
     from ← place_at log bytes
     most ← number_at w64 from.1
-    Ok (call.Chunk from.0 most.0, most.1)
+    Ok (call.Act (act.Chunk from.0 most.0), most.1)
   call_at verb.ChunkStep log bytes = do
     from ← place_at log bytes
     by ← i32_at from.1
-    Ok (call.ChunkStep from.0 by.0, by.1)
+    Ok (call.Act (act.ChunkStep from.0 by.0), by.1)
   call_at verb.Truncate log bytes = do
     head ← option_at item_at bytes
-    Ok (call.Truncate head.0, head.1)
+    Ok (call.Act (act.Truncate head.0), head.1)
   call_at verb.Reopen log bytes = do
     target ← base_at bytes
     head ← option_at item_at target.1
     Ok (call.Reopen target.0 head.0, head.1)
-  call_at verb.NextFile log bytes = Ok (call.NextFile, bytes)
+  call_at verb.NextFile log bytes = Ok (call.Act act.NextFile, bytes)
   call_at verb.ChangeSize log bytes = do
     size ← size_at bytes
-    Ok (call.ChangeSize size.0, size.1)
-  call_at verb.Sync log bytes = Ok (call.Sync, bytes)
+    Ok (call.Act (act.ChangeSize size.0), size.1)
+  call_at verb.Sync log bytes = Ok (call.Act act.Sync, bytes)
   call_at verb.Block log bytes = do
     queue ← choice_at bools bytes
     Ok (call.Block queue.0, queue.1)
   call_at verb.Unblock log bytes = Ok (call.Unblock, bytes)
-  call_at verb.Info log bytes = Ok (call.Info, bytes)
+  call_at verb.Info log bytes = Ok (call.Act act.Info, bytes)
   call_at verb.Close log bytes = Ok (call.Close, bytes)
 
   -- a client, a log, and the parts of the call

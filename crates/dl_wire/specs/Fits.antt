@@ -3,6 +3,7 @@ use Rattle.std.specs.Prelude.{◌≡◌, ◌<◌, ◌≤◌, ◌^◌, ℕ, List,
 use Rattle.std.specs.Int.{w32}
 use Rattle.std.specs.List.{AllByRecursion}
 use Rattle.dl_types.specs.declared.call.Call.{Call}
+use Rattle.dl_types.specs.declared.call.Act.TheVariants as act
 use Rattle.dl_types.specs.declared.call.Call.TheVariants as call
 use Rattle.dl_types.specs.declared.event.Event.{Event}
 use Rattle.dl_types.specs.declared.event.Event.TheVariants as event
@@ -54,18 +55,18 @@ module _ {Z : Type 0} where
   -- a call on the log of this name
   abbrev pub IsCall : Name → Call Z → Type 0
   IsCall log (call.Open args) = IsOpen args
-  IsCall log (call.Log items) = AreItems items
+  IsCall log (call.Act (act.Log items)) = AreItems items
   IsCall log (call.Alog items) = AreItems items
-  IsCall log (call.Chunk from most) = IsPlace log from × (most < 2 ^ 64)
-  IsCall log (call.ChunkStep from by) = IsPlace log from × FitsSigned w32 by
-  IsCall log (call.Truncate head) = IfSome head IsItem
+  IsCall log (call.Act (act.Chunk from most)) = IsPlace log from × (most < 2 ^ 64)
+  IsCall log (call.Act (act.ChunkStep from by)) = IsPlace log from × FitsSigned w32 by
+  IsCall log (call.Act (act.Truncate head)) = IfSome head IsItem
   IsCall log (call.Reopen target head) = IsBase target × IfSome head IsItem
-  IsCall log call.NextFile = ⊤
-  IsCall log (call.ChangeSize size) = IsSize size
-  IsCall log call.Sync = ⊤
+  IsCall log (call.Act act.NextFile) = ⊤
+  IsCall log (call.Act (act.ChangeSize size)) = IsSize size
+  IsCall log (call.Act act.Sync) = ⊤
   IsCall log (call.Block queue) = ⊤
   IsCall log call.Unblock = ⊤
-  IsCall log call.Info = ⊤
+  IsCall log (call.Act act.Info) = ⊤
   IsCall log call.Close = ⊤
 
   abbrev pub IsEvent : Event Z → Type 0

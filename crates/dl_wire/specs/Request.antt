@@ -1,6 +1,7 @@
 -- Requests as bytes.
 use Rattle.std.specs.Prelude.{ℕ, List, [], ◌∷◌, ◌++◌}
 use Rattle.dl_types.specs.declared.call.Call.{Call}
+use Rattle.dl_types.specs.declared.call.Act.TheVariants as act
 use Rattle.dl_types.specs.declared.call.Call.TheVariants as call
 use Rattle.dl_types.specs.declared.event.Event.{Event}
 use Rattle.dl_types.specs.declared.event.Event.TheVariants as event
@@ -28,35 +29,35 @@ module _ {Z : Type 0} where
   -- the number of a call
   abbrev pub call_code : Call Z → ℕ
   call_code (call.Open args) = 1
-  call_code (call.Log items) = 2
+  call_code (call.Act (act.Log items)) = 2
   call_code (call.Alog items) = 3
-  call_code (call.Chunk from most) = 4
-  call_code (call.ChunkStep from by) = 5
-  call_code (call.Truncate head) = 6
+  call_code (call.Act (act.Chunk from most)) = 4
+  call_code (call.Act (act.ChunkStep from by)) = 5
+  call_code (call.Act (act.Truncate head)) = 6
   call_code (call.Reopen target head) = 7
-  call_code call.NextFile = 8
-  call_code (call.ChangeSize size) = 9
-  call_code call.Sync = 10
+  call_code (call.Act act.NextFile) = 8
+  call_code (call.Act (act.ChangeSize size)) = 9
+  call_code (call.Act act.Sync) = 10
   call_code (call.Block queue) = 11
   call_code call.Unblock = 12
-  call_code call.Info = 13
+  call_code (call.Act act.Info) = 13
   call_code call.Close = 14
 
   -- what a call says after the client and the log
   abbrev pub call_text : Call Z → List ℕ
   call_text (call.Open args) = open_text args
-  call_text (call.Log items) = list_text bytes_text items
+  call_text (call.Act (act.Log items)) = list_text bytes_text items
   call_text (call.Alog items) = list_text bytes_text items
-  call_text (call.Chunk from most) = place_text from ++ u64_text most
-  call_text (call.ChunkStep from by) = place_text from ++ i32_text by
-  call_text (call.Truncate head) = option_text bytes_text head
+  call_text (call.Act (act.Chunk from most)) = place_text from ++ u64_text most
+  call_text (call.Act (act.ChunkStep from by)) = place_text from ++ i32_text by
+  call_text (call.Act (act.Truncate head)) = option_text bytes_text head
   call_text (call.Reopen target head) = short_text (base_text target) ++ option_text bytes_text head
-  call_text call.NextFile = []
-  call_text (call.ChangeSize size) = size_text size
-  call_text call.Sync = []
+  call_text (call.Act act.NextFile) = []
+  call_text (call.Act (act.ChangeSize size)) = size_text size
+  call_text (call.Act act.Sync) = []
   call_text (call.Block queue) = bool_code queue ∷ []
   call_text call.Unblock = []
-  call_text call.Info = []
+  call_text (call.Act act.Info) = []
   call_text call.Close = []
 
   -- an event's number and its parts

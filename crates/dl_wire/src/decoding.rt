@@ -15,7 +15,7 @@ use crate::reading::{
 };
 use crate::request::{Ask, Request};
 use dl_types::{
-    Call, ClientId, Continuation, Event, Kind, Link, Mode, Name, OpenArgs, Place, Repair,
+    Act, Call, ClientId, Continuation, Event, Kind, Link, Mode, Name, OpenArgs, Place, Repair,
 };
 use std::alloc::Allocator;
 
@@ -141,7 +141,7 @@ fn call_at<A: Allocator + Copy>(
         }
         Verb::Log => {
             let (items, rest) = list_at(alloc, bytes)?;
-            Ok((Call::Log(items), rest))
+            Ok((Call::Act(Act::Log(items)), rest))
         }
         Verb::Alog => {
             let (items, rest) = list_at(alloc, bytes)?;
@@ -150,34 +150,34 @@ fn call_at<A: Allocator + Copy>(
         Verb::Chunk => {
             let (from, rest) = place_at(log, bytes)?;
             let (most, rest) = u64_at(rest)?;
-            Ok((Call::Chunk { from, most }, rest))
+            Ok((Call::Act(Act::Chunk { from, most }), rest))
         }
         Verb::ChunkStep => {
             let (from, rest) = place_at(log, bytes)?;
             let (by, rest) = i32_at(rest)?;
-            Ok((Call::ChunkStep { from, by }, rest))
+            Ok((Call::Act(Act::ChunkStep { from, by }), rest))
         }
         Verb::Truncate => {
             let (head, rest) = some_item_at(alloc, bytes)?;
-            Ok((Call::Truncate { head }, rest))
+            Ok((Call::Act(Act::Truncate { head }), rest))
         }
         Verb::Reopen => {
             let (target, rest) = base_at(bytes)?;
             let (head, rest) = some_item_at(alloc, rest)?;
             Ok((Call::Reopen { target, head }, rest))
         }
-        Verb::NextFile => Ok((Call::NextFile, bytes)),
+        Verb::NextFile => Ok((Call::Act(Act::NextFile), bytes)),
         Verb::ChangeSize => {
             let (size, rest) = size_at(bytes)?;
-            Ok((Call::ChangeSize(size), rest))
+            Ok((Call::Act(Act::ChangeSize(size)), rest))
         }
-        Verb::Sync => Ok((Call::Sync, bytes)),
+        Verb::Sync => Ok((Call::Act(Act::Sync), bytes)),
         Verb::Block => {
             let (queue, rest) = choice_at(&[false, true], bytes)?;
             Ok((Call::Block { queue }, rest))
         }
         Verb::Unblock => Ok((Call::Unblock, bytes)),
-        Verb::Info => Ok((Call::Info, bytes)),
+        Verb::Info => Ok((Call::Act(Act::Info), bytes)),
         Verb::Close => Ok((Call::Close, bytes)),
     }
 }

@@ -1,9 +1,8 @@
-//! Requests and answers as the bytes of frames, for programs in any language.
+//! Requests that are read from the bytes of frames, and answers and notices that are written, for programs in any language.
 #![tactic(auto)]
 
 mod answering;
 mod decoding;
-mod encoding;
 mod fault;
 mod frame;
 mod law;
@@ -17,7 +16,6 @@ mod writing;
 
 pub use answering::{push_answer, push_bad, push_notice, push_welcome};
 pub use decoding::decode;
-pub use encoding::push_request;
 pub use fault::{DecodeFault, EncodeFault};
 pub use law::a_text_is_one_request;
 pub use limits::{FRAME_LIMIT, SUSPENDED_LIMIT, VERSION};
