@@ -1,18 +1,11 @@
 -- The files in the way of a log, by a list of all files.
-use Rattle.std.proofs.Common.{◌≡◌, ◌⊎◌, inl, inr, ℕ, List, [], ◌∷◌, Bool, true, false, cond, ◌||◌, Option, Some, None, refl, sym, ◌∙◌, ap, subst, arith}
-use Rattle.std.specs.Prelude.{◌↔◌, filter, IsSome}
+use Rattle.std.proofs.Common.{◌≡◌, ◌⊎◌, inl, inr, ℕ, List, [], ◌∷◌, Bool, true, false, cond, ◌||◌, Option, Some, None, refl, sym, ◌∙◌, ap, subst, arith, ◌↔◌, filter, IsSome}
+use Rattle.dl_tool.proofs.Words.{Base, Contains, Content, FileName, list_any, LogFiles, main_file, same_base}
 use Rattle.std.specs.FinMap as map
-use Rattle.std.specs.List.{Contains, list_any}
 use Rattle.std.proofs.lemmas.List.Elements.{Contains-append_left, Contains-append_right, Contains-append_cases}
 use Rattle.dl_types.specs.contracts.file.FileNamePartialEq.TheImpl.{ghosts as file_ghosts}
-use Rattle.dl_types.specs.declared.name.Base.{Base}
-use Rattle.dl_types.specs.declared.file.FileName.{FileName}
-use Rattle.dl_types.specs.FileName.{Content}
-use Rattle.dl_types.specs.Name.{same_base}
 use Rattle.dl_types.proofs.Keys.{base_decides, file_eq_decides}
-use Rattle.dl_tool.specs.declared.line.LogFiles.{LogFiles}
 use Rattle.dl_tool.specs.Begin.{AreInWay}
-use Rattle.dl_tool.specs.Folder.{main_file}
 use Rattle.dl_tool.proofs.Logs.{one_of, the_one}
 
 -- ---- a list that has a file has one that is equal to it

@@ -1,22 +1,14 @@
 -- The last file of a log.
-use Rattle.std.proofs.Common.{◌≡◌, ℕ, List, Option, Some, sym, ◌∙◌, ap, subst}
-use Rattle.std.specs.Prelude.{◌↔◌}
-use Rattle.dl_types.specs.declared.name.Base.{Base}
-use Rattle.dl_types.specs.declared.head.Head.{Head}
-use Rattle.dl_types.specs.FileName.{Content}
+use Rattle.std.proofs.Common.{◌≡◌, ℕ, List, Option, Some, sym, ◌∙◌, ap, subst, ◌↔◌}
+use Rattle.dl_tool.proofs.Words.{Base, Content, Entry, Head, index_of, LogFiles, text_at, Wrap}
 use Rattle.dl_types.specs.Frame.{IsHead}
-use Rattle.dl_types.specs.declared.size.Kind.TheVariants.{Wrap}
-use Rattle.dl_disk.specs.Disk.{text_at}
-use Rattle.dl_index.specs.declared.entry.Entry.{Entry}
 use Rattle.dl_index.specs.Entries.{current_of}
 use Rattle.dl_index.specs.IndexText.{IsIndex}
 use Rattle.dl_index.specs.View.{IndexView}
 use Rattle.dl_log.proofs.Stored.{index_once}
 use Rattle.dl_tool.specs.declared.closed.Closed.{Closed}
 use Rattle.dl_tool.specs.declared.closed.LastFile.{LastFile}
-use Rattle.dl_tool.specs.declared.line.LogFiles.{LogFiles}
 use Rattle.dl_tool.specs.Closed.{closed_count, wrap_last, IsClosed, IsLast, IsLastOf}
-use Rattle.dl_tool.specs.Named.{index_of}
 use Rattle.dl_tool.proofs.Newers.{same_some, IsHeadOf}
 
 -- what is found of the last file

@@ -1,3 +1,4 @@
+pub mod Words
 pub mod Readings
 pub mod Halts
 pub mod Wraps

@@ -1,10 +1,6 @@
 -- Rows of a table, and one more.
-use Rattle.std.proofs.Common.{◌≡◌, List, [], ◌∷◌, ◌++◌, sym, ◌∙◌, ap}
-use Rattle.std.specs.Prelude.{◌&&◌, ◌||◌, map as mapped}
-use Rattle.std.specs.List.{list_all, list_any}
-use Rattle.std.proofs.lemmas.List.{map-append}
-use Rattle.dl_tool.specs.declared.table.Row.{Row}
-use Rattle.dl_tool.specs.Report.{is_clean, is_unread}
+use Rattle.std.proofs.Common.{◌≡◌, List, [], ◌∷◌, ◌++◌, sym, ◌∙◌, ap, ◌&&◌, ◌||◌, map as mapped}
+use Rattle.dl_tool.proofs.Words.{is_clean, is_unread, list_all, list_any, map-append, Row}
 use Rattle.dl_tool.proofs.Tellings.{all_more, any_more}
 
 -- what was found of the rows, and of one more

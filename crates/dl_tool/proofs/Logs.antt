@@ -1,15 +1,11 @@
 -- The logs of a list of files.
 use Rattle.std.proofs.Common.{◌≡◌, ◌⊎◌, inl, inr, ℕ, List, [], ◌∷◌, Option, Some, None, refl, sym, ◌∙◌, ap, subst, get_or, arith}
-use Rattle.std.specs.List.{filter_map, cons_option, Contains}
+use Rattle.dl_tool.proofs.Words.{Base, Contains, FileName, Halt, Kind, LogFiles, main_file, Wrap}
+use Rattle.std.specs.List.{filter_map, cons_option}
 use Rattle.std.proofs.lemmas.List.Elements.{Contains-append_left, Contains-append_right, Contains-append_cases}
-use Rattle.dl_types.specs.declared.name.Base.{Base}
-use Rattle.dl_types.specs.declared.file.FileName.{FileName}
 use Rattle.dl_types.specs.declared.file.Part.{Part}
 use Rattle.dl_types.specs.declared.file.Part.TheVariants as part
-use Rattle.dl_types.specs.declared.size.Kind.{Kind}
-use Rattle.dl_types.specs.declared.size.Kind.TheVariants.{Halt, Wrap}
-use Rattle.dl_tool.specs.declared.line.LogFiles.{LogFiles}
-use Rattle.dl_tool.specs.Folder.{main_part, main_file, log_with, log_of}
+use Rattle.dl_tool.specs.Folder.{main_part, log_with, log_of}
 
 -- a list of one has it, and nothing else
 pub one_of : {X : Type 0} (x : X) → Contains (x ∷ []) x

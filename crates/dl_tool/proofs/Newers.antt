@@ -1,17 +1,11 @@
 -- A file against the index of its base.
-use Rattle.std.proofs.Common.{◌≡◌, ◌<◌, ℕ, List, Option, Some, sym, ◌∙◌, ap, subst, arith}
-use Rattle.std.specs.Prelude.{◌↔◌}
-use Rattle.dl_types.specs.declared.file.FileName.{FileName}
-use Rattle.dl_types.specs.declared.head.Head.{Head}
-use Rattle.dl_types.specs.FileName.{Content}
+use Rattle.std.proofs.Common.{◌≡◌, ◌<◌, ℕ, List, Option, Some, sym, ◌∙◌, ap, subst, arith, ◌↔◌}
+use Rattle.dl_tool.proofs.Words.{Content, Entry, FileName, Head, index_of, text_at}
 use Rattle.dl_types.specs.Frame.{IsHead}
-use Rattle.dl_disk.specs.Disk.{text_at}
-use Rattle.dl_index.specs.declared.entry.Entry.{Entry}
 use Rattle.dl_index.specs.Entries.{current_of}
 use Rattle.dl_index.specs.IndexText.{IsIndex}
 use Rattle.dl_index.specs.View.{IndexView}
 use Rattle.dl_log.proofs.Stored.{index_once}
-use Rattle.dl_tool.specs.Named.{index_of}
 use Rattle.dl_tool.specs.Newer.{IsNewer}
 
 pub same_some : {X : Type 0} {x y : X} → Some x ≡ Some y → x ≡ y

@@ -1,28 +1,20 @@
 -- The strays of a list of files.
-use Rattle.std.proofs.Common.{◌≡◌, ◌⊎◌, inl, inr, ℕ, List, [], ◌∷◌, ◌++◌, Bool, true, false, cond, Option, Some, Result, IsTrue, refl, sym, ◌∙◌, ap, subst, arith}
-use Rattle.std.specs.Prelude.{◌↔◌, not, filter, IsSome}
+use Rattle.std.proofs.Common.{◌≡◌, ◌⊎◌, inl, inr, ℕ, List, [], ◌∷◌, ◌++◌, Bool, true, false, cond, Option, Some, Result, IsTrue, refl, sym, ◌∙◌, ap, subst, arith, ◌↔◌, not, filter, IsSome}
+use Rattle.dl_tool.proofs.Words.{ArePicked, Base, CheckFault, Contains, Content, DiskState, Entry, FileName, index_of, IsNamed, Named, ReadsLog, same_base}
 use Rattle.std.specs.FinMap as map
-use Rattle.std.specs.List.{Contains}
 use Rattle.std.proofs.lemmas.List.Elements.{Contains-append_left, Contains-append_right, Contains-append_cases}
-use Rattle.dl_types.specs.declared.name.Base.{Base}
-use Rattle.dl_types.specs.declared.file.FileName.{FileName}
 use Rattle.dl_types.specs.declared.file.Part.{Part}
 use Rattle.dl_types.specs.declared.file.Part.TheVariants as part
-use Rattle.dl_types.specs.FileName.{Content}
-use Rattle.dl_types.specs.Name.{same_base}
-use Rattle.dl_disk.specs.Disk.{DiskState, IsUncounted}
+use Rattle.dl_disk.specs.Disk.{IsUncounted}
 use Rattle.dl_disk.proofs.Acts.{acts_later}
-use Rattle.dl_index.specs.declared.entry.Entry.{Entry}
 use Rattle.dl_index.specs.declared.entry.Limits.{Limits}
 use Rattle.dl_index.specs.IndexText.{IsIndex}
 use Rattle.dl_log.proofs.Stored.{index_once}
-use Rattle.dl_tool.specs.declared.finding.CheckFault.{CheckFault}
 use Rattle.dl_tool.specs.declared.named.Known.{Known}
-use Rattle.dl_tool.specs.declared.named.Named.{Named}
 use Rattle.dl_tool.specs.declared.named.Named.TheVariants as named
-use Rattle.dl_tool.specs.Named.{index_of, leaves_out, names_number, IsLeftOut, IsNamed, Knows, LeavesOut}
-use Rattle.dl_tool.specs.Reads.{OnlyReads, ReadsLog}
-use Rattle.dl_tool.specs.Stray.{ArePicked, AreStrays, AreStraysOf}
+use Rattle.dl_tool.specs.Named.{leaves_out, names_number, IsLeftOut, Knows, LeavesOut}
+use Rattle.dl_tool.specs.Reads.{OnlyReads}
+use Rattle.dl_tool.specs.Stray.{AreStrays, AreStraysOf}
 use Rattle.dl_tool.proofs.Begins.{own_from, own_to}
 use Rattle.dl_tool.proofs.Logs.{one_of, the_one}
 use Rattle.std.proofs.lemmas.Bool.{not-true}

@@ -1,11 +1,7 @@
 -- A table of logs, and one log more.
-use Rattle.std.proofs.Common.{◌≡◌, ◌+◌, ◌<◌, ℕ, List, [], ◌∷◌, ◌++◌, None, length, take, get_or, refl, sym, ◌∙◌, ap, zero-add, arith}
-use Rattle.std.specs.Prelude.{sum_by}
-use Rattle.std.proofs.lemmas.List.{take_more}
+use Rattle.std.proofs.Common.{◌≡◌, ◌+◌, ◌<◌, ℕ, List, [], ◌∷◌, ◌++◌, None, length, take, get_or, refl, sym, ◌∙◌, ap, zero-add, arith, sum_by}
+use Rattle.dl_tool.proofs.Words.{Amount, capped, Row, take_more}
 use Rattle.std.proofs.lemmas.List.Sums.{sum_by-append}
-use Rattle.dl_types.specs.Add.{capped}
-use Rattle.dl_tool.specs.declared.finding.Amount.{Amount}
-use Rattle.dl_tool.specs.declared.table.Row.{Row}
 use Rattle.dl_tool.specs.Table.{amount_in, share_of, total_of, total_with, last_text}
 use Rattle.dl_tool.proofs.Readings.{capped_more}
 

@@ -1,16 +1,11 @@
 -- Logs that were reported, and one more.
-use Rattle.std.proofs.Common.{◌≡◌, ℕ, List, [], ◌∷◌, ◌++◌, Bool, true, false, Option, IsTrue, refl, sym, ◌∙◌, ap, subst, append_assoc, append-nil}
-use Rattle.std.specs.Prelude.{◌&&◌, ◌||◌}
-use Rattle.std.specs.List.{list_all, list_any}
+use Rattle.std.proofs.Common.{◌≡◌, ℕ, List, [], ◌∷◌, ◌++◌, Bool, true, false, Option, IsTrue, refl, sym, ◌∙◌, ap, subst, append_assoc, append-nil, ◌&&◌, ◌||◌}
+use Rattle.dl_tool.proofs.Words.{Content, DiskState, Finding, is_clean, is_unread, list_all, list_any, LogFiles}
 use Rattle.std.specs.Io.KnownBytes.{Appends}
 use Rattle.std.proofs.KnownBytes.{Appends-nil, Appends-trans}
-use Rattle.dl_types.specs.FileName.{Content}
-use Rattle.dl_disk.specs.Disk.{DiskState}
-use Rattle.dl_tool.specs.declared.finding.Finding.{Finding}
-use Rattle.dl_tool.specs.declared.line.LogFiles.{LogFiles}
 use Rattle.dl_tool.specs.declared.told.Style.{Style}
 use Rattle.std.proofs.lemmas.List.Folds.{list_all-append, list_any-append}
-use Rattle.dl_tool.specs.Report.{is_clean, is_unread, FindsLog, AreFound, AreLines, Tells}
+use Rattle.dl_tool.specs.Report.{FindsLog, AreFound, AreLines, Tells}
 use Rattle.dl_tool.specs.Told.{IsTold}
 
 pub found_more : (Z : Type 0) (content : Content) (logs : List LogFiles) (xs : List Finding) (log : LogFiles) (x : Finding) → AreFound Z content logs xs → FindsLog Z content log x

@@ -1,13 +1,8 @@
 -- What is found of a log, one field on a line.
 use Rattle.std.specs.Prelude.{◌≡◌, ℕ, List, [], ◌∷◌, ◌++◌, ◌==◌, Option, Some, None, codes, if◌then◌else◌}
-use Rattle.std.specs.Fmt.{decimal}
+use Rattle.dl_tool.specs.Words.{Absent, Amount, base_text, Clean, decimal, Finding, kind_word, LogFiles, printed_file, Refused, Torn, Unread}
 use Rattle.dl_types.specs.declared.size.Size.{Size}
-use Rattle.dl_types.specs.Name.{base_text}
-use Rattle.dl_types.specs.Printed.{characters_of, printed_file, refusal_text, size_text, kind_word}
-use Rattle.dl_tool.specs.declared.finding.Amount.{Amount}
-use Rattle.dl_tool.specs.declared.finding.Finding.{Finding}
-use Rattle.dl_tool.specs.declared.finding.Finding.TheVariants.{Absent, Clean, Torn, Refused, Unread}
-use Rattle.dl_tool.specs.declared.line.LogFiles.{LogFiles}
+use Rattle.dl_types.specs.Printed.{characters_of, refusal_text, size_text}
 use Rattle.dl_tool.specs.Line.{whole_word, cut_text}
 
 -- a line: the name of a field, and its text

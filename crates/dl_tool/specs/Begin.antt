@@ -1,9 +1,7 @@
 -- Files that are in the way of a log that is to be begun.
 use Rattle.std.specs.Prelude.{◌≡◌, ◌↔◌, List, IsSome, None, Contains}
+use Rattle.dl_tool.specs.Words.{Content, FileName, LogFiles}
 use Rattle.std.specs.FinMap as map
-use Rattle.dl_types.specs.declared.file.FileName.{FileName}
-use Rattle.dl_types.specs.FileName.{Content}
-use Rattle.dl_tool.specs.declared.line.LogFiles.{LogFiles}
 use Rattle.dl_tool.specs.Folder.{main_file}
 
 -- the log is not there, and this file of its base is

@@ -1,24 +1,19 @@
 -- What the last file of a log was closed with.
 use Rattle.std.specs.Prelude.{◌≡◌, ◌==◌, ℕ, List, Bool, true, Option, Some, None, if◌then◌else◌}
-use Rattle.dl_types.specs.declared.name.Base.{Base}
+use Rattle.dl_tool.specs.Words.{Base, Content, Kind, Limits, LogFiles, text_at}
 use Rattle.dl_types.specs.declared.file.Part.TheVariants as part
 use Rattle.dl_types.specs.declared.head.Head.{Head}
 use Rattle.dl_types.specs.declared.head.Mark.{Mark}
 use Rattle.dl_types.specs.declared.head.Mark.TheVariants.{Shut}
 use Rattle.dl_types.specs.declared.head.Version.{Version}
 use Rattle.dl_types.specs.declared.head.Version.TheVariants.{Second}
-use Rattle.dl_types.specs.declared.size.Kind.{Kind}
 use Rattle.dl_types.specs.declared.size.Kind.TheVariants.{Halt, Wrap}
-use Rattle.dl_types.specs.FileName.{Content}
 use Rattle.dl_types.specs.Frame.{IsHead}
-use Rattle.dl_disk.specs.Disk.{text_at}
 use Rattle.dl_index.specs.declared.entry.Entry.{Entry}
-use Rattle.dl_index.specs.declared.entry.Limits.{Limits}
 use Rattle.dl_index.specs.Entries.{current_of}
 use Rattle.dl_index.specs.IndexText.{IsIndex}
 use Rattle.dl_tool.specs.declared.closed.Closed.{Closed}
 use Rattle.dl_tool.specs.declared.closed.LastFile.{LastFile}
-use Rattle.dl_tool.specs.declared.line.LogFiles.{LogFiles}
 use Rattle.dl_tool.specs.Named.{index_of}
 
 -- the items that a file with these marks was closed with, of the layout that counts them

@@ -1,15 +1,11 @@
 -- Which logs a folder has.
 use Rattle.std.specs.Prelude.{◌↔◌, Option, Some, None, IsSome, Contains, List, [], ◌∷◌, filter}
+use Rattle.dl_tool.specs.Words.{Base, Content, FileName, Kind, LogFiles}
 use Rattle.std.specs.FinMap as map
-use Rattle.dl_types.specs.declared.name.Base.{Base}
-use Rattle.dl_types.specs.declared.file.FileName.{FileName}
 use Rattle.dl_types.specs.declared.file.Part.{Part}
 use Rattle.dl_types.specs.declared.file.Part.TheVariants as part
-use Rattle.dl_types.specs.declared.size.Kind.{Kind}
 use Rattle.dl_types.specs.declared.size.Kind.TheVariants.{Halt, Wrap}
-use Rattle.dl_types.specs.FileName.{Content}
 use Rattle.dl_types.specs.Name.{same_base}
-use Rattle.dl_tool.specs.declared.line.LogFiles.{LogFiles}
 
 -- the part of the main file of a log of this kind: the log is there if this file is
 abbrev pub main_part : Kind → Part

@@ -1,3 +1,4 @@
+pub mod Words
 pub mod Line
 pub mod Json
 pub mod Told

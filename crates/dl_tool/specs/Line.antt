@@ -1,12 +1,7 @@
 -- What is found of a log, as a line.
 use Rattle.std.specs.Prelude.{◌≡◌, ◌==◌, ℕ, List, [], ◌∷◌, ◌++◌, codes, if◌then◌else◌}
-use Rattle.std.specs.Fmt.{decimal}
-use Rattle.dl_types.specs.Name.{base_text}
-use Rattle.dl_types.specs.Printed.{characters_of, kind_word, printed_file, refusal_text}
-use Rattle.dl_tool.specs.declared.finding.Amount.{Amount}
-use Rattle.dl_tool.specs.declared.finding.Finding.{Finding}
-use Rattle.dl_tool.specs.declared.finding.Finding.TheVariants.{Absent, Clean, Torn, Refused, Unread}
-use Rattle.dl_tool.specs.declared.line.LogFiles.{LogFiles}
+use Rattle.dl_tool.specs.Words.{Absent, Amount, base_text, Clean, decimal, Finding, kind_word, LogFiles, printed_file, Refused, Torn, Unread}
+use Rattle.dl_types.specs.Printed.{characters_of, refusal_text}
 
 -- a log, and a space
 abbrev pub log_text : LogFiles → List ℕ

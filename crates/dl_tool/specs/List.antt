@@ -1,8 +1,7 @@
 -- The list of the logs of a folder.
 use Rattle.std.specs.Prelude.{◌≡◌, ℕ, List, Option, IsTrue, map as mapped}
+use Rattle.dl_tool.specs.Words.{DiskState, LogFiles}
 use Rattle.std.specs.Io.KnownBytes.{Appends}
-use Rattle.dl_disk.specs.Disk.{DiskState}
-use Rattle.dl_tool.specs.declared.line.LogFiles.{LogFiles}
 use Rattle.dl_tool.specs.declared.table.Row.{Row}
 use Rattle.dl_tool.specs.Report.{AreFound}
 use Rattle.dl_tool.specs.Table.{table_text}

@@ -1,9 +1,8 @@
 -- What the last file of a log that needs a repair shows of items that were lost.
 use Rattle.std.specs.Prelude.{ℕ, List, [], ◌∷◌, Bool, if◌then◌else◌, ◌==◌, ◌||◌, not, Option, None, Some, length}
-use Rattle.dl_types.specs.declared.file.FileName.{FileName}
+use Rattle.dl_tool.specs.Words.{FileName, Finding}
 use Rattle.dl_types.specs.declared.head.Head.{Head}
 use Rattle.dl_types.specs.Frame.{is_miscounted}
-use Rattle.dl_tool.specs.declared.finding.Finding.{Finding}
 use Rattle.dl_tool.specs.declared.finding.Finding.TheVariants as finding
 use Rattle.dl_tool.specs.declared.losses.Losses.{Losses}
 use Rattle.dl_tool.specs.Zeros.{ends_in_zeros}

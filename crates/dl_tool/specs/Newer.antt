@@ -1,12 +1,9 @@
 -- Files that are newer than the index of their base.
 use Rattle.std.specs.Prelude.{◌≡◌, ◌<◌, ℕ, List, Some}
-use Rattle.dl_types.specs.declared.file.FileName.{FileName}
+use Rattle.dl_tool.specs.Words.{Content, FileName, Limits, text_at}
 use Rattle.dl_types.specs.declared.head.Head.{Head}
-use Rattle.dl_types.specs.FileName.{Content}
 use Rattle.dl_types.specs.Frame.{IsHead}
-use Rattle.dl_disk.specs.Disk.{text_at}
 use Rattle.dl_index.specs.declared.entry.Entry.{Entry}
-use Rattle.dl_index.specs.declared.entry.Limits.{Limits}
 use Rattle.dl_index.specs.Entries.{current_of}
 use Rattle.dl_index.specs.IndexText.{IsIndex}
 use Rattle.dl_tool.specs.Named.{index_of}

@@ -1,8 +1,6 @@
 -- What is found of files beside their logs, as it is reported: a line for people, or an object for programs.
 use Rattle.std.specs.Prelude.{ℕ, List, [], ◌++◌, Bool, true, false, Option, None, Some, codes, if◌then◌else◌}
-use Rattle.std.specs.Fmt.{decimal}
-use Rattle.dl_types.specs.declared.file.FileName.{FileName}
-use Rattle.dl_types.specs.Printed.{printed_file}
+use Rattle.dl_tool.specs.Words.{decimal, FileName, printed_file}
 use Rattle.dl_tool.specs.declared.losses.Losses.{Losses}
 use Rattle.dl_tool.specs.declared.told.Style.{Style}
 use Rattle.dl_tool.specs.declared.told.Style.TheVariants.{Line, Json}

@@ -1,14 +1,10 @@
 -- The report on the logs of a folder.
 use Rattle.std.specs.Prelude.{◌≡◌, ◌==◌, ℕ, List, [], ◌∷◌, ◌++◌, ◌&&◌, Bool, true, false, IsTrue, Option}
+use Rattle.dl_tool.specs.Words.{Content, DiskState, Files, Finding, LogFiles}
 use Rattle.std.specs.List.{list_all, list_any}
 use Rattle.std.specs.Io.KnownBytes.{Appends}
-use Rattle.dl_types.specs.FileName.{Content}
-use Rattle.dl_disk.specs.Disk.{DiskState}
-use Rattle.dl_types.specs.State.{Files}
 use Rattle.dl_log.specs.Reads.{ReadsAs}
-use Rattle.dl_tool.specs.declared.finding.Finding.{Finding}
 use Rattle.dl_tool.specs.declared.finding.Finding.TheVariants as finding
-use Rattle.dl_tool.specs.declared.line.LogFiles.{LogFiles}
 use Rattle.dl_tool.specs.declared.report.Health.{Health}
 use Rattle.dl_tool.specs.declared.report.Health.TheVariants.{Clean, Unclean, Unread}
 use Rattle.dl_tool.specs.declared.told.Style.{Style}

@@ -1,9 +1,7 @@
 -- Files of a folder that belong to no log.
 use Rattle.std.specs.Prelude.{◌≡◌, ◌↔◌, IsSome, Contains, List}
+use Rattle.dl_tool.specs.Words.{Base, Content, FileName}
 use Rattle.std.specs.FinMap as map
-use Rattle.dl_types.specs.declared.name.Base.{Base}
-use Rattle.dl_types.specs.declared.file.FileName.{FileName}
-use Rattle.dl_types.specs.FileName.{Content}
 use Rattle.dl_disk.specs.declared.fault.ListFault.{ListFault}
 use Rattle.dl_disk.specs.declared.fault.ListFault.TheVariants as list
 use Rattle.dl_tool.specs.declared.finding.CheckFault.{CheckFault}

@@ -1,13 +1,8 @@
 -- The logs of a folder as a table.
 use Rattle.std.specs.Prelude.{ℕ, ◌+◌, ◌-◌, List, [], ◌∷◌, ◌++◌, Option, Some, None, codes, length, max, replicate, fold, sum_by, map as mapped}
-use Rattle.std.specs.Fmt.{decimal}
+use Rattle.dl_tool.specs.Words.{Absent, Amount, base_text, Clean, decimal, Finding, kind_word, Refused, Torn, Unread}
 use Rattle.std.specs.List.{flat_map}
 use Rattle.dl_types.specs.Add.{capped}
-use Rattle.dl_types.specs.Name.{base_text}
-use Rattle.dl_types.specs.Printed.{kind_word}
-use Rattle.dl_tool.specs.declared.finding.Amount.{Amount}
-use Rattle.dl_tool.specs.declared.finding.Finding.{Finding}
-use Rattle.dl_tool.specs.declared.finding.Finding.TheVariants.{Absent, Clean, Torn, Refused, Unread}
 use Rattle.dl_tool.specs.declared.table.Column.{Column}
 use Rattle.dl_tool.specs.declared.table.Column.TheVariants.{Name, Kind, Files, Items, Bytes, Bad, State}
 use Rattle.dl_tool.specs.declared.table.Entry.{Entry}

@@ -1,7 +1,6 @@
 -- What is found of a log, as it is reported.
 use Rattle.std.specs.Prelude.{ℕ, List}
-use Rattle.dl_tool.specs.declared.finding.Finding.{Finding}
-use Rattle.dl_tool.specs.declared.line.LogFiles.{LogFiles}
+use Rattle.dl_tool.specs.Words.{Finding, LogFiles}
 use Rattle.dl_tool.specs.declared.told.Style.{Style}
 use Rattle.dl_tool.specs.declared.told.Style.TheVariants.{Line, Json}
 use Rattle.dl_tool.specs.Json.{IsJson}

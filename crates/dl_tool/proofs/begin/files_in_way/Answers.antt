@@ -1,11 +1,7 @@
-use Rattle.std.proofs.Common.{◌≡◌, sym, subst, ap, ◌∙◌, List}
-use Rattle.std.specs.Prelude.{filter, false}
-use Rattle.std.specs.List.{list_any}
+use Rattle.std.proofs.Common.{◌≡◌, sym, subst, ap, ◌∙◌, List, filter, false}
+use Rattle.dl_tool.proofs.Words.{FileName, list_any, main_file, same_base}
 use Rattle.dl_types.specs.contracts.file.FileNamePartialEq.TheImpl.{ghosts as file_ghosts}
-use Rattle.dl_types.specs.declared.file.FileName.{FileName}
-use Rattle.dl_types.specs.Name.{same_base}
 use Rattle.dl_tool.specs.Begin.{AreInWay}
-use Rattle.dl_tool.specs.Folder.{main_file}
 use Rattle.dl_tool.proofs.Begins.{own_in_way}
 use Rattle.dl_tool.proofs.begin.files_in_way.Goals as goal
 

@@ -1,6 +1,5 @@
 use Rattle.std.proofs.Common.{◌≡◌, ℕ, Some, sym, ◌∙◌, subst}
-use Rattle.dl_types.specs.FileName.{Content}
-use Rattle.dl_disk.specs.Disk.{text_at}
+use Rattle.dl_tool.proofs.Words.{Content, text_at}
 use Rattle.dl_tool.specs.Closed.{closed_count}
 use Rattle.dl_tool.proofs.Closeds.{closed_is, headless_not_closed, uncounted_not_closed}
 use Rattle.dl_tool.proofs.Newers.{IsHeadOf}

@@ -1,13 +1,7 @@
-use Rattle.std.proofs.Common.{◌≡◌, Some, sym, ◌∙◌, ap, subst}
-use Rattle.std.specs.Prelude.{◌↔◌}
-use Rattle.dl_types.specs.declared.name.Base.{Base}
-use Rattle.dl_types.specs.declared.file.FileName.{FileName}
-use Rattle.dl_types.specs.declared.size.Kind.{Kind}
-use Rattle.dl_types.specs.declared.size.Kind.TheVariants.{Wrap}
+use Rattle.std.proofs.Common.{◌≡◌, Some, sym, ◌∙◌, ap, subst, ◌↔◌}
+use Rattle.dl_tool.proofs.Words.{Base, FileName, index_of, IsNamed, Kind, Named, Wrap}
 use Rattle.dl_tool.specs.declared.closed.LastFile.{LastFile}
-use Rattle.dl_tool.specs.declared.named.Named.{Named}
 use Rattle.dl_tool.specs.Closed.{wrap_last, IsLastOf}
-use Rattle.dl_tool.specs.Named.{index_of, IsNamed}
 use Rattle.dl_tool.proofs.Closeds.{current_last}
 use Rattle.dl_tool.proofs.closed.last_file.Goals as goal
 

@@ -1,5 +1,4 @@
-use Rattle.std.proofs.Common.{◌≡◌, ◌∷◌, take}
-use Rattle.std.specs.Prelude.{map as mapped}
+use Rattle.std.proofs.Common.{◌≡◌, ◌∷◌, take, map as mapped}
 use Rattle.dl_tool.specs.declared.table.Entry.TheVariants.{Head, Log}
 use Rattle.dl_tool.proofs.columns.entries_of.Given as goal
 

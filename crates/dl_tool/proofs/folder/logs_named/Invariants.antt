@@ -1,5 +1,4 @@
-use Rattle.std.proofs.Common.{◌≡◌, take}
-use Rattle.std.specs.Prelude.{filter}
+use Rattle.std.proofs.Common.{◌≡◌, take, filter}
 use Rattle.dl_types.specs.Name.{same_base}
 use Rattle.dl_tool.proofs.folder.logs_named.Given as goal
 

@@ -1,7 +1,6 @@
 use Rattle.std.proofs.Common.{◌≡◌, ℕ, List, take, sym, ◌∙◌, ap, subst}
-use Rattle.dl_types.specs.FileName.{Content}
+use Rattle.dl_tool.proofs.Words.{Content, text_at}
 use Rattle.dl_types.specs.Frame.{IsHead}
-use Rattle.dl_disk.specs.Disk.{text_at}
 use Rattle.dl_frame.proofs.Heads.{head_of_front}
 use Rattle.dl_tool.proofs.head.head_of.Goals as goal
 

@@ -1,11 +1,5 @@
-use Rattle.std.proofs.Common.{rules, ◌≡◌, ◌++◌, ◌∷◌, [], List, sym, ap, subst, ◌∙◌, take, get_or}
-use Rattle.std.specs.Prelude.{map as mapped}
-use Rattle.std.proofs.lemmas.List.{take_more, map-append}
-use Rattle.dl_types.specs.declared.size.Kind.TheVariants.{Halt}
-use Rattle.dl_types.specs.FileName.{Content}
-use Rattle.dl_tool.specs.declared.finding.Finding.{Finding}
-use Rattle.dl_tool.specs.declared.line.LogFiles.{LogFiles}
-use Rattle.dl_tool.specs.declared.table.Row.{Row}
+use Rattle.std.proofs.Common.{rules, ◌≡◌, ◌++◌, ◌∷◌, [], List, sym, ap, subst, ◌∙◌, take, get_or, map as mapped}
+use Rattle.dl_tool.proofs.Words.{Content, Finding, Halt, LogFiles, map-append, Row, take_more}
 use Rattle.dl_tool.specs.Report.{AreFound, FindsLog}
 use Rattle.dl_tool.proofs.Tellings.{found_more}
 use Rattle.dl_tool.proofs.list.check_each.Goals as goal

@@ -1,5 +1,4 @@
-use Rattle.std.proofs.Common.{◌≡◌, IsTrue, take}
-use Rattle.std.specs.Prelude.{map as mapped}
+use Rattle.std.proofs.Common.{◌≡◌, IsTrue, take, map as mapped}
 use Rattle.dl_tool.specs.Report.{AreFound}
 use Rattle.dl_tool.proofs.list.check_each.Given as goal
 

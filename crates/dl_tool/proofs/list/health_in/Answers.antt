@@ -1,12 +1,7 @@
-use Rattle.std.proofs.Common.{[], List, Bool, sym, ap, ◌∙◌, take, get_or}
-use Rattle.std.specs.Prelude.{◌&&◌, ◌||◌, map as mapped}
-use Rattle.std.specs.List.{list_all, list_any}
-use Rattle.std.proofs.lemmas.List.{take_more}
-use Rattle.dl_types.specs.declared.size.Kind.TheVariants.{Halt}
+use Rattle.std.proofs.Common.{[], List, Bool, sym, ap, ◌∙◌, take, get_or, ◌&&◌, ◌||◌, map as mapped}
+use Rattle.dl_tool.proofs.Words.{Halt, is_clean, is_unread, list_all, list_any, Row, take_more}
 use Rattle.dl_tool.specs.declared.finding.Finding.TheVariants.{Absent}
 use Rattle.dl_tool.specs.declared.report.Tally.{Tally}
-use Rattle.dl_tool.specs.declared.table.Row.{Row}
-use Rattle.dl_tool.specs.Report.{is_clean, is_unread}
 use Rattle.dl_tool.proofs.Lists.{clean_snoc, unread_snoc}
 use Rattle.dl_tool.proofs.list.health_in.Goals as goal
 

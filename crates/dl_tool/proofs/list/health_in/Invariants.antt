@@ -1,7 +1,5 @@
-use Rattle.std.proofs.Common.{◌≡◌, take}
-use Rattle.std.specs.Prelude.{map as mapped}
-use Rattle.std.specs.List.{list_all, list_any}
-use Rattle.dl_tool.specs.Report.{is_clean, is_unread}
+use Rattle.std.proofs.Common.{◌≡◌, take, map as mapped}
+use Rattle.dl_tool.proofs.Words.{is_clean, is_unread, list_all, list_any}
 use Rattle.dl_tool.proofs.list.health_in.Given as goal
 
 -- how the logs so far stand

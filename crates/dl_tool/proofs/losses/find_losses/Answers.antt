@@ -1,10 +1,8 @@
 use Rattle.std.proofs.Common.{rules, ◌≡◌, [], sym, ◌∙◌, subst}
+use Rattle.dl_tool.proofs.Words.{Content, FileName, Found, OpensAs}
 use Rattle.std.specs.FinMap as map
-use Rattle.dl_types.specs.declared.file.FileName.{FileName}
-use Rattle.dl_types.specs.FileName.{Content}
-use Rattle.dl_file.specs.declared.found.Found.{Found}
 use Rattle.dl_file.specs.File.{Holds}
-use Rattle.dl_file.specs.Open.{IsOwn, OpensAs}
+use Rattle.dl_file.specs.Open.{IsOwn}
 use Rattle.dl_tool.proofs.LastItems.{found_file, found_head, found_holds, losses_are}
 use Rattle.dl_tool.proofs.losses.find_losses.Goals as goal
 

@@ -1,10 +1,5 @@
-use Rattle.std.proofs.Common.{◌≡◌, ◌<◌, true, ap, subst, arith}
-use Rattle.std.specs.Prelude.{◌↔◌, nat_lt}
-use Rattle.dl_types.specs.declared.name.Base.{Base}
-use Rattle.dl_types.specs.FileName.{Content}
-use Rattle.dl_disk.specs.Disk.{text_at}
-use Rattle.dl_tool.specs.declared.named.Named.{Named}
-use Rattle.dl_tool.specs.Named.{index_of, IsNamed}
+use Rattle.std.proofs.Common.{◌≡◌, ◌<◌, true, ap, subst, arith, ◌↔◌, nat_lt}
+use Rattle.dl_tool.proofs.Words.{Base, Content, index_of, IsNamed, Named, text_at}
 use Rattle.dl_tool.proofs.Newers.{headless_not_newer, newer_if, newer_only, IsHeadOf}
 use Rattle.dl_tool.proofs.newer.is_newer.Goals as goal
 

@@ -1,10 +1,8 @@
-use Rattle.std.proofs.Common.{◌++◌, ◌∷◌, [], List, Bool, refl, sym, ◌∙◌, ap, subst, append-nil}
-use Rattle.std.specs.Prelude.{◌&&◌, ◌||◌}
-use Rattle.std.proofs.lemmas.List.{take_more, flat_map_more}
-use Rattle.dl_tool.specs.declared.line.LogFiles.{LogFiles}
+use Rattle.std.proofs.Common.{◌++◌, ◌∷◌, [], List, Bool, refl, sym, ◌∙◌, ap, subst, append-nil, ◌&&◌, ◌||◌}
+use Rattle.dl_tool.proofs.Words.{FileName, is_clean, is_unread, LogFiles, take_more}
+use Rattle.std.proofs.lemmas.List.{flat_map_more}
 use Rattle.dl_tool.specs.declared.report.Tally.{Tally}
-use Rattle.dl_tool.specs.Report.{is_clean, is_unread, Tells}
-use Rattle.dl_types.specs.declared.file.FileName.{FileName}
+use Rattle.dl_tool.specs.Report.{Tells}
 use Rattle.dl_tool.specs.Losses.{torn_file}
 use Rattle.dl_tool.proofs.Tellings.{tells_none, tells_more, all_more, any_more}
 use Rattle.dl_tool.proofs.report.check_logs.Goals as goal

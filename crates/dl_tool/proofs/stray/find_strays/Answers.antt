@@ -1,8 +1,6 @@
 use Rattle.std.proofs.Common.{◌≡◌, subst, List}
+use Rattle.dl_tool.proofs.Words.{ArePicked, Content, FileName}
 use Rattle.std.proofs.lemmas.Result.{IfOk-weaker}
-use Rattle.dl_types.specs.FileName.{Content}
-use Rattle.dl_types.specs.declared.file.FileName.{FileName}
-use Rattle.dl_tool.specs.Stray.{ArePicked}
 use Rattle.dl_tool.proofs.Strays.{only_then, only_uncounted, strays_are}
 use Rattle.dl_disk.proofs.Acts.{rises_since}
 use Rattle.dl_tool.proofs.stray.find_strays.Goals as goal

@@ -1,10 +1,6 @@
-use Rattle.std.proofs.Common.{◌≡◌, List, ◌∙◌, ap, subst}
-use Rattle.std.specs.Prelude.{filter}
+use Rattle.std.proofs.Common.{◌≡◌, List, ◌∙◌, ap, subst, filter}
+use Rattle.dl_tool.proofs.Words.{ArePicked, Content, FileName, same_base}
 use Rattle.std.proofs.lemmas.Result.{IfOk-weaker}
-use Rattle.dl_types.specs.declared.file.FileName.{FileName}
-use Rattle.dl_types.specs.FileName.{Content}
-use Rattle.dl_types.specs.Name.{same_base}
-use Rattle.dl_tool.specs.Stray.{ArePicked}
 use Rattle.dl_tool.proofs.Strays.{strays_of}
 use Rattle.dl_tool.proofs.stray.find_strays_of.Goals as goal
 

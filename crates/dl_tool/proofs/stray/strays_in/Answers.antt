@@ -1,11 +1,8 @@
-use Rattle.std.proofs.Common.{◌≡◌, true, ◌++◌, ◌∷◌, [], List, get_or, take, sym, subst, arith}
-use Rattle.std.specs.Prelude.{◌↔◌, IfSome}
-use Rattle.std.proofs.lemmas.List.{take_more, take_all}
-use Rattle.dl_types.specs.declared.file.FileName.{FileName}
+use Rattle.std.proofs.Common.{◌≡◌, true, ◌++◌, ◌∷◌, [], List, get_or, take, sym, subst, arith, ◌↔◌, IfSome}
+use Rattle.dl_tool.proofs.Words.{ArePicked, Content, FileName, index_of, take_more}
+use Rattle.std.proofs.lemmas.List.{take_all}
 use Rattle.dl_types.specs.declared.file.Part.TheVariants.{Halt}
-use Rattle.dl_types.specs.FileName.{Content}
-use Rattle.dl_tool.specs.Named.{index_of, IsLeftOut, Knows}
-use Rattle.dl_tool.specs.Stray.{ArePicked}
+use Rattle.dl_tool.specs.Named.{IsLeftOut, Knows}
 use Rattle.dl_tool.proofs.Strays.{only_none, only_log, only_then, picked_more, picked_none}
 use Rattle.dl_tool.proofs.stray.strays_in.Goals as goal
 

@@ -1,5 +1,4 @@
-use Rattle.std.proofs.Common.{take}
-use Rattle.std.specs.Prelude.{IfSome, IsTrue}
+use Rattle.std.proofs.Common.{take, IfSome, IsTrue}
 use Rattle.dl_tool.specs.Named.{Knows}
 use Rattle.dl_tool.specs.Reads.{OnlyReads}
 use Rattle.dl_tool.specs.Stray.{ArePicked}

@@ -1,7 +1,6 @@
 use Rattle.std.proofs.Common.{[], ap, ◌∙◌}
-use Rattle.dl_types.specs.declared.size.Kind.TheVariants.{Halt}
+use Rattle.dl_tool.proofs.Words.{Halt, Row}
 use Rattle.dl_tool.specs.declared.finding.Finding.TheVariants.{Absent}
-use Rattle.dl_tool.specs.declared.table.Row.{Row}
 use Rattle.dl_tool.specs.Table.{share_of, total_with}
 use Rattle.dl_tool.proofs.Tables.{total_step}
 use Rattle.dl_tool.proofs.table.total_of.Goals as goal
