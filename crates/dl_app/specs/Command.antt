@@ -3,6 +3,7 @@ use Rattle.std.specs.Prelude.{◌≡◌, ℕ, ℤ, Bool, true, false, List, [], 
 use Rattle.std.specs.Borrow.{Bor}
 use Rattle.std.specs.List.{list_all}
 use Rattle.dl_types.specs.declared.call.Call.{Call}
+use Rattle.dl_types.specs.declared.call.Act.TheVariants as act
 use Rattle.dl_types.specs.declared.call.Call.TheVariants as call
 use Rattle.dl_types.specs.declared.name.Base.{Base}
 use Rattle.dl_types.specs.declared.name.ClientId.{ClientId}
@@ -131,18 +132,18 @@ place_from start.Next next = next
 -- the call that a request asks for
 abbrev pub call_in : {Z : Type 0} → Request → Place → Call Z
 call_in (request.Open kind settings) next = call.Open (args_of settings (plain_args kind))
-call_in (request.Log items) next = call.Log (map item_bytes (words_left items))
+call_in (request.Log items) next = call.Act (act.Log (map item_bytes (words_left items)))
 call_in (request.Alog items) next = call.Alog (map item_bytes (words_left items))
-call_in (request.Chunk from most) next = call.Chunk (place_from from next) most
-call_in (request.ChunkStep from by) next = call.ChunkStep (place_from from next) by
-call_in (request.Truncate head) next = call.Truncate (head_bytes head)
+call_in (request.Chunk from most) next = call.Act (act.Chunk (place_from from next) most)
+call_in (request.ChunkStep from by) next = call.Act (act.ChunkStep (place_from from next) by)
+call_in (request.Truncate head) next = call.Act (act.Truncate (head_bytes head))
 call_in (request.Reopen target head) next = call.Reopen target (head_bytes head)
-call_in request.NextFile next = call.NextFile
-call_in (request.ChangeSize size) next = call.ChangeSize size
-call_in request.Sync next = call.Sync
+call_in request.NextFile next = call.Act act.NextFile
+call_in (request.ChangeSize size) next = call.Act (act.ChangeSize size)
+call_in request.Sync next = call.Act act.Sync
 call_in (request.Block queue) next = call.Block queue
 call_in request.Unblock next = call.Unblock
-call_in request.Info next = call.Info
+call_in request.Info next = call.Act act.Info
 call_in request.Close next = call.Close
 
 -- why a request is refused before it is a call

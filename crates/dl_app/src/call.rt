@@ -6,7 +6,7 @@ ghost use Rattle.dl_app.specs.Command.{place_from, call_in, refusal_in};
 use crate::command::{Request, Start};
 use crate::items::{head_of, items_of};
 use crate::places::Places;
-use dl_types::{Call, ClientId, Fail, Name, Place};
+use dl_types::{Act, Call, ClientId, Fail, Name, Place};
 use std::alloc::Allocator;
 
 /// The call that a client's words ask for, or why it is refused before it is one.
@@ -23,29 +23,29 @@ pub fn call_of<A: Allocator + Copy>(
 {
     Ok(match *request {
         Request::Open { kind, settings } => Call::Open(settings.args(alloc, kind)?),
-        Request::Log(words) => Call::Log(items_of(alloc, words)?),
+        Request::Log(words) => Call::Act(Act::Log(items_of(alloc, words)?)),
         Request::Alog(words) => Call::Alog(items_of(alloc, words)?),
-        Request::Chunk { from, most } => Call::Chunk {
+        Request::Chunk { from, most } => Call::Act(Act::Chunk {
             from: place_from(from, client, log, places),
             most,
-        },
-        Request::ChunkStep { from, by } => Call::ChunkStep {
+        }),
+        Request::ChunkStep { from, by } => Call::Act(Act::ChunkStep {
             from: place_from(from, client, log, places),
             by,
-        },
-        Request::Truncate { head } => Call::Truncate {
+        }),
+        Request::Truncate { head } => Call::Act(Act::Truncate {
             head: head_of(alloc, head)?,
-        },
+        }),
         Request::Reopen { target, head } => Call::Reopen {
             target,
             head: head_of(alloc, head)?,
         },
-        Request::NextFile => Call::NextFile,
-        Request::ChangeSize(size) => Call::ChangeSize(size),
-        Request::Sync => Call::Sync,
+        Request::NextFile => Call::Act(Act::NextFile),
+        Request::ChangeSize(size) => Call::Act(Act::ChangeSize(size)),
+        Request::Sync => Call::Act(Act::Sync),
         Request::Block { queue } => Call::Block { queue },
         Request::Unblock => Call::Unblock,
-        Request::Info => Call::Info,
+        Request::Info => Call::Act(Act::Info),
         Request::Close => Call::Close,
     })
 }

@@ -17,7 +17,7 @@ use crate::log::{DigestArgs, LogDigests};
 use dl_disk::Disk;
 use dl_hub::Hub;
 use dl_pipe::{Gap, PipeFault, READER, fault_for, start_of};
-use dl_types::{Call, Continuation, Event, Name, Place, Reply, Run};
+use dl_types::{Act, Call, Continuation, Event, Name, Place, Reply, Run};
 use std::alloc::{AllocError, Allocator};
 
 /// A log whose items are taken into digests.
@@ -64,10 +64,10 @@ impl<A: Allocator + Copy> Reading<A> {
             let outcome = hub.step(Event::Call {
                 client: READER,
                 log,
-                call: Call::Chunk {
+                call: Call::Act(Act::Chunk {
                     from: self.place,
                     most: self.left,
-                },
+                }),
             });
             match &outcome.reply {
                 Reply::Items { next, items, bad } => self.take(*next, items, *bad)?,

@@ -49,11 +49,11 @@ fn log_items<S: Steps>(bench: Bench<'_>, hub: &mut S) -> Result<Duration, Fault>
     check(&hub.step(call(log, Call::Open(OpenArgs::of(Kind::Halt)))))?;
     let start = Instant::now(bench.rt)?;
     for number in 0..bench.items {
-        check(&hub.step(call(log, Call::Log(one_item(bench.rt.alloc(), number)?))))?;
+        check(&hub.step(call(log, Call::log(one_item(bench.rt.alloc(), number)?))))?;
     }
     flush(hub);
     let spent = start.elapsed(bench.rt)?;
-    if written(&hub.step(call(log, Call::Info))) != bench.items {
+    if written(&hub.step(call(log, Call::info()))) != bench.items {
         return Err(Fault::Items);
     }
     Ok(spent)

@@ -94,7 +94,7 @@ impl<D: Disk + Drop> Client<'_, D> {
         let (mut from, mut passed) = (Place::Start, 0u64);
         for _chunk in 0..u64::MAX {
             let most = CHUNK_ITEMS;
-            let Reply::Items { next, items, .. } = self.ask(call(log, Call::Chunk { from, most }))?
+            let Reply::Items { next, items, .. } = self.ask(call(log, Call::chunk(from, most)))?
             else {
                 break;
             };
@@ -137,7 +137,7 @@ impl Bench<'_> {
             items.push(item(self.rt.alloc(), number)?)?;
         }
         match Items::of(items) {
-            Ok(items) => Ok(call(log, Call::Log(items))),
+            Ok(items) => Ok(call(log, Call::log(items))),
             Err(_) => Ok(Event::Flush),
         }
     }
