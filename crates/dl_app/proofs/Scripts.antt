@@ -20,6 +20,16 @@ pub answered : {A E : Type 0} (r : Result A E) (Says Written : List ℕ → Type
 answered (Ok x) Says Written answer says written = (answer, says, written)
 answered (Err e) Says Written answer says written = tt
 
+-- what is known in any case is known of a success
+pub known_of : {A E : Type 0} (r : Result A E) (Known : Type 0) → Known → OnOk r Known
+known_of (Ok x) Known known = known
+known_of (Err e) Known known = tt
+
+-- the same of an answer of which more is known
+pub answers_so : {A E : Type 0} (r : Result A E) (Is Says Written : List ℕ → Type 0) (Known : Type 0) → OnOk r ((x : List ℕ) × Is x × Written x) → OnOk r Known → (Known → (x : List ℕ) → Is x → Says x) → OnOk r ((x : List ℕ) × Says x × Written x)
+answers_so (Ok x) Is Says Written Known given known says = (given.0, says known given.0 given.1, given.2)
+answers_so (Err e) Is Says Written Known given known says = tt
+
 -- a call that was refused before it was an event
 pub refused_is : (A : Type 0) (o : Option Refusal) (fail : Fail) (refusal : Refusal) → fail ≡ Refused refusal → IfSome o (λ r. ◌≡◌ {A = Result A Fail} (Err fail) (Err (Refused r))) → IfNone o (fail ≡ OutOfMemory)
     → o ≡ Some refusal

@@ -7,8 +7,10 @@ ghost use Rattle.dl_types.specs.declared.name.Name.{Name};
 ghost use Rattle.dl_types.specs.declared.place.Place.TheVariants.{Start};
 ghost use Rattle.dl_lines.specs.Digits.{hex};
 ghost use Rattle.dl_lines.specs.Lines.{HasLines};
+ghost use Rattle.dl_app.specs.Answers.{IsLineOf};
 ghost use Rattle.dl_app.specs.Command.{call_in, refusal_in};
-ghost use Rattle.dl_app.specs.Places.{place_of};
+ghost use Rattle.dl_app.specs.Notices.{IsOutcomeText};
+ghost use Rattle.dl_app.specs.Places.{place_of, places_after};
 ghost use Rattle.dl_app.specs.Script.{HasNoForm, IsBadLine, IsCalled, IsLine, IsStepped, Runs, RunsOn, ShowsFile};
 ghost use Rattle.dl_app.specs.Session.{next_of, stage_of, IsAnswerFault};
 
@@ -20,7 +22,7 @@ use crate::places::Places;
 use dl_disk::Disk;
 use dl_hub::{FileFault, Hub};
 use dl_lines::{NextLine, next_line, push_hex};
-use dl_types::{Call, ClientId, Event, Fail, FileName, Name, Refusal};
+use dl_types::{Call, ClientId, Event, Fail, FileName, Name, Outcome, Refusal};
 use std::alloc::Allocator;
 use std::io::{BufRead, Write};
 
@@ -178,8 +180,36 @@ impl<A: Allocator + Copy> Session<A> {
     {
         let event = Event::Call { client, log, call };
         let outcome = hub.apply(&event);
+        self.answer_call(client, log, &outcome, output)
+    }
+
+    // Keeps the place that the outcome of a call gave to its client, and writes the answer.
+    fn answer_call<W: Write>(
+        &mut self,
+        client: ClientId,
+        log: Name,
+        outcome: &Outcome<A>,
+        output: &mut W,
+    ) -> Result<(), ScriptFault>
+        ensures written { OnOk result ((answer : List ℕ) × IsLineOf (IsOutcomeText outcome.now) answer × Appends (W.contents output.old) (W.contents output.new) answer) }
+        ensures places { OnOk result (place_of self.new.places ≡ places_after outcome.now.reply client log (place_of self.old.places)) }
+        ensures fault { IfErr result IsAnswerFault }
+    {
         self.places.keep_after(client, log, &outcome.reply)?;
-        put_outcome(&mut self.text, &outcome)?;
+        self.answer(outcome, output)
+    }
+
+    // Writes the answer that an outcome is.
+    fn answer<W: Write>(
+        &mut self,
+        outcome: &Outcome<A>,
+        output: &mut W,
+    ) -> Result<(), ScriptFault>
+        ensures written { OnOk result ((answer : List ℕ) × IsLineOf (IsOutcomeText outcome.now) answer × Appends (W.contents output.old) (W.contents output.new) answer) }
+        ensures places { self.new.places ≡ self.old.places }
+        ensures fault { IfErr result IsAnswerFault }
+    {
+        put_outcome(&mut self.text, outcome)?;
         write_answer(self.text.as_slice(), output)
     }
 
@@ -195,8 +225,7 @@ impl<A: Allocator + Copy> Session<A> {
         ensures fault { IfErr result IsAnswerFault }
     {
         let outcome = hub.step(event);
-        put_outcome(&mut self.text, &outcome)?;
-        write_answer(self.text.as_slice(), output)
+        self.answer(&outcome, output)
     }
 }
 
