@@ -200,11 +200,7 @@ impl<A: Allocator + Copy> Session<A> {
     }
 
     // Writes the answer that an outcome is.
-    fn answer<W: Write>(
-        &mut self,
-        outcome: &Outcome<A>,
-        output: &mut W,
-    ) -> Result<(), ScriptFault>
+    fn answer<W: Write>(&mut self, outcome: &Outcome<A>, output: &mut W) -> Result<(), ScriptFault>
         ensures written { OnOk result ((answer : List ℕ) × IsLineOf (IsOutcomeText outcome.now) answer × Appends (W.contents output.old) (W.contents output.new) answer) }
         ensures places { self.new.places ≡ self.old.places }
         ensures fault { IfErr result IsAnswerFault }

@@ -14,7 +14,7 @@ use dl_threads::threads_script;
 use dl_trail::{Record, Recorded};
 use std::alloc::{AllocError, Global};
 use std::io;
-use std::io::BufReader;
+use std::io::{BufReader, Read};
 use std::process::ExitCode;
 use std::sync::Wait;
 use std::thread::Threads;
@@ -66,12 +66,21 @@ fn run_on<D: Disk + Drop + Send, T: Threads + Wait + Clock + Sync>(
     handle: &T,
     hub: Recorded<D>,
 ) -> ExitCode {
-    let input = BufReader::with_capacity(rt.alloc(), BUFFER_BYTES, Noted::new(rt.reader()));
-    let Ok(mut input) = input else {
-        return tell(rt, ScriptFault::OutOfMemory, FAILED);
-    };
+    match BufReader::with_capacity(rt.alloc(), BUFFER_BYTES, Noted::new(rt.reader())) {
+        Ok(mut input) => run_read(rt, handle, &mut input, hub),
+        Err(_) => tell(rt, ScriptFault::OutOfMemory, FAILED),
+    }
+}
+
+// Runs the script of an input on a hub.
+fn run_read<D: Disk + Drop + Send, T: Threads + Wait + Clock + Sync, I: Read>(
+    rt: &HostRuntime,
+    handle: &T,
+    input: &mut BufReader<Noted<I>>,
+    hub: Recorded<D>,
+) -> ExitCode {
     let mut output = Noted::new(io::writer(rt));
-    let done = threads_script(handle, rt.alloc(), &mut input, &mut output, hub);
+    let done = threads_script(handle, rt.alloc(), input, &mut output, hub);
     let streams = Streams {
         input: input.get_ref().why(),
         output: output.why(),
