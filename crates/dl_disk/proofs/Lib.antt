@@ -3,3 +3,4 @@ pub mod Acts
 pub mod FaultCounts
 pub mod Kept
 mod Owed
+mod Losses

@@ -1,18 +1,33 @@
--- Which files of a folder may have bytes that are not on the device.
-use Rattle.std.specs.Prelude.{◌≡◌, ◌&&◌, Bool, false, not, IsTrue}
+-- Which files of a folder may have bytes that are not on the device, and which of its names may not be.
+use Rattle.std.specs.Prelude.{◌≡◌, ◌&&◌, ◌||◌, Bool, [], false, not, IsTrue}
 use Rattle.indexmap.specs.IndexSet.{contains}
 use Rattle.dl_types.specs.Name.{same_base}
 use Rattle.dl_types.specs.declared.file.FileName.{FileName}
 use Rattle.dl_types.specs.contracts.file.FileNamePartialEq.TheImpl.{ghosts as file_ghosts}
+use Rattle.dl_types.specs.declared.name.Base.{Base}
+use Rattle.dl_types.specs.contracts.name.BasePartialEq.TheImpl.{ghosts as base_ghosts}
 use Rattle.dl_disk.specs.declared.folder.owed.Owed.{Owed}
+use Rattle.dl_disk.specs.declared.folder.owed_names.OwedNames.{OwedNames}
 
 -- a file was written since it was last synced
 abbrev pub owes : Owed → FileName → Bool
 owes owed file = contains file_ghosts.eq owed.files file
 
+-- a sync of a file is running without the disk
+abbrev pub is_running : Owed → FileName → Bool
+is_running owed file = contains file_ghosts.eq owed.doubtful file && contains file_ghosts.eq owed.running file
+
 -- a sync of a file failed since it was put
 abbrev pub is_lost : Owed → FileName → Bool
-is_lost owed file = contains file_ghosts.eq owed.lost file
+is_lost owed file = contains file_ghosts.eq owed.doubtful file && not (contains file_ghosts.eq owed.running file)
+
+-- a file is known not to have been written since it was synced or put, or since its sync without the disk began
+abbrev pub is_unchanged : Owed → FileName → Bool
+is_unchanged owed file = contains file_ghosts.eq owed.unchanged file
+
+-- all bytes of a file are known to be on the device
+abbrev pub is_clean : Owed → FileName → Bool
+is_clean owed file = is_unchanged owed file && not (owes owed file) && not (contains file_ghosts.eq owed.doubtful file)
 
 -- it has the base of a file, and is another
 abbrev pub is_beside : FileName → FileName → Bool
@@ -29,3 +44,11 @@ KeepsLost old new = (file : FileName) → IsTrue (is_lost old file) → IsTrue (
 -- no file owes bytes that did not
 abbrev pub KeepsSettled : Owed → Owed → Type 0
 KeepsSettled old new = (file : FileName) → owes old file ≡ false → owes new file ≡ false
+
+-- a name under this base may not be durable, or one that was not put as new
+abbrev pub owes_name : OwedNames → Base → Bool
+owes_name names base = names.changed || contains base_ghosts.eq names.begun base
+
+-- all names are durable
+abbrev pub OwesNoName : OwedNames → Type 0
+OwesNoName names = (names.changed ≡ false) × (names.begun.keys ≡ [])

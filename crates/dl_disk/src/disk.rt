@@ -6,6 +6,7 @@ ghost use Rattle.dl_types.specs.declared.file.FileName.{FileName};
 ghost use Rattle.dl_disk.specs.Disk.{DiskState, IsCallOn, IsUncounted, written, TornAt, text_at, IsOnce};
 
 use crate::fault::{Fault, ListFault};
+use crate::syncing::Syncing;
 use dl_types::{Base, FileName};
 use std::alloc::{AllocError, Allocator};
 
@@ -14,8 +15,9 @@ use std::alloc::{AllocError, Allocator};
 /// Contracts see its files as a finite map from names to bytes, and its faults as a count by base. What they say of
 /// files holds of an honest disk, one that answers what was written. A disk that has once been dishonest stays so.
 ///
-/// A file that was put, renamed or removed is answered so, though its name may not be durable yet where the device failed
-/// after that. A disk remembers it: the next change of names and the next `sync` of any file make it durable, or are a fault.
+/// A file that was put, renamed or removed is answered so, though its name may not be durable yet: where the device failed
+/// after that, and where the file is new. A disk remembers it: the next change of names under the file's base and the next `sync`
+/// of any file make it durable, or are a fault.
 pub trait Disk {
     /// What the disk is seen as: its files, whether it was honest so far, and its counts of faults.
     ghost state: { Self → DiskState };
@@ -87,6 +89,29 @@ pub trait Disk {
         ensures device { IsCallOn file.base (state self.old) (state self.new) result }
         ensures content { IsTrue (state self.new).honest → (state self.new).content ≡ (state self.old).content }
         ensures there { IsTrue (state self.new).honest → OnOk result (IsSome (map.get (state self.old).content file)) };
+
+    /// Whether syncs can be waited for without the disk, as those of a folder can.
+    fn syncs_apart(&self) -> bool {
+        false
+    }
+
+    /// Begins a sync of a file that is waited for without the disk. Returns `None` if the disk has no such way, if the file owes
+    /// nothing, is not there or is being synced so already, and if a sync of it failed: then `sync` answers for it.
+    fn begin_sync(&mut self, file: FileName) -> Option<Syncing>
+        ensures { state self.new ≡ state self.old }
+    {
+        let _ = file;
+        None
+    }
+
+    /// Notes how a sync that `begin_sync` began has ended. If it failed, each later `sync` of the file is a fault, until the file
+    /// is put anew. If it succeeded and the file was not changed meanwhile, the next `sync` of the file asks no device.
+    fn end_sync(&mut self, syncing: Syncing, synced: bool)
+        ensures { state self.new ≡ state self.old }
+    {
+        let _ = syncing;
+        let _ = synced;
+    }
 
     /// The names of the files that are there, each once. A fault is counted under no base.
     fn list<A: Allocator>(&mut self, alloc: A) -> Result<Vec<FileName, A>, ListFault>

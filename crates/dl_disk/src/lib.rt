@@ -8,6 +8,7 @@ mod files;
 mod folder;
 mod fuse;
 mod memory;
+mod syncing;
 mod syncs;
 
 pub use disk::Disk;
@@ -16,4 +17,5 @@ pub use files::copy_from;
 pub use folder::FolderDisk;
 pub use fuse::{Fuse, FuseDisk};
 pub use memory::MemoryDisk;
+pub use syncing::Syncing;
 pub use syncs::Syncs;

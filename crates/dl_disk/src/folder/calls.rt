@@ -10,6 +10,7 @@ ghost use Rattle.dl_disk.specs.Owed.{owes};
 use super::kept::Kept;
 use super::opened::{Access, Opened, length_at};
 use super::owed::Owed;
+use super::owed_names::OwedNames;
 use crate::fault::OpenFault;
 use crate::syncs::Syncs;
 use dl_types::FileName;
@@ -32,8 +33,7 @@ pub(crate) struct Folder<R: Files<File = File> + AllocGlobal + Clone + Drop> {
     pub(crate) kept: Kept,
     pub(crate) syncs: Syncs,
     pub(crate) owed: Owed,
-    // Whether names may have changed since they were last durable.
-    pub(crate) owes_names: bool,
+    pub(crate) names: OwedNames,
 }
 
 impl<R: Files<File = File> + AllocGlobal + Clone + Drop> Folder<R> {
@@ -50,6 +50,7 @@ impl<R: Files<File = File> + AllocGlobal + Clone + Drop> Folder<R> {
         own.try_lock()?;
         let kept = Kept::new(rt.alloc())?;
         let owed = Owed::new(rt.alloc());
+        let names = OwedNames::new(rt.alloc());
         Ok(Folder {
             rt,
             path,
@@ -57,7 +58,7 @@ impl<R: Files<File = File> + AllocGlobal + Clone + Drop> Folder<R> {
             kept,
             syncs,
             owed,
-            owes_names: true,
+            names,
         })
     }
 

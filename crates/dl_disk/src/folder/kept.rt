@@ -7,6 +7,7 @@ use super::opened::{Access, Opened};
 use dl_types::FileName;
 use lru::LruCache;
 use std::alloc::{AllocError, Global};
+use std::fs::File;
 use std::io;
 use std::io::ErrorKind;
 use std::num::NonZeroUsize;
@@ -142,5 +143,13 @@ impl Kept {
             None => Err(ErrorKind::NotFound.into()),
         };
         self.close_after(name, answer)
+    }
+
+    /// A second handle of a kept file.
+    pub(crate) fn handle(&self, name: FileName) -> io::Result<File> {
+        match self.files.peek(&name) {
+            Some(opened) => opened.file.try_clone(),
+            None => Err(ErrorKind::NotFound.into()),
+        }
     }
 }

@@ -1,16 +1,15 @@
 // The calls of the system that change which files a folder has.
 ghost use Rattle.std.specs.Prelude.{◌≡◌, ◌<◌, false, IfOk, IsTrue, OnOk, OnErr};
-ghost use Rattle.indexmap.specs.IndexSet.{spare};
 ghost use Rattle.std.specs.Path.{path_buf_bytes, path_join};
 ghost use Rattle.dl_types.specs.declared.file.FileName.{FileName};
 ghost use Rattle.dl_disk.specs.declared.syncs.Syncs.TheVariants.{AtRolls};
 ghost use Rattle.dl_disk.specs.Folder.{IsClosed, draft_name};
-ghost use Rattle.dl_disk.specs.Owed.{IsSettledBeside, is_lost, owes};
+ghost use Rattle.dl_disk.specs.Owed.{IsSettledBeside, is_lost, owes, owes_name};
 
 use super::calls::{Folder, if_there, is_crowded};
 use super::opened::Access;
 use crate::fault::ListFault;
-use dl_types::FileName;
+use dl_types::{Base, FileName};
 use std::alloc::Allocator;
 use std::fs::{DirEntry, File};
 use std::io::{ErrorKind, Write};
@@ -41,8 +40,20 @@ impl<R: Files<File = File> + AllocGlobal + Clone + Drop> Folder<R> {
         put
     }
 
-    /// Puts a whole file in the place of what was there. A stop leaves either the old file or the new one.
-    /// Names that are owed from an earlier change are made durable first, and so is what other files under its base owe.
+    // Makes names durable that may not become so after those which are about to change under a base.
+    fn settle_names_for(&mut self, base: Base) -> io::Result<()>
+        ensures durable { OnOk result (owes_name self.new.names base ≡ false) }
+        ensures rest { self.new ≡ record self.old { own = self.new.own; names = self.new.names } }
+    {
+        if self.names.is_owed_under(base) {
+            self.sync_names()?;
+        }
+        Ok(())
+    }
+
+    /// Puts a whole file in the place of what was there. A stop leaves either the old file or the new one. Names under its base that
+    /// are owed from an earlier change are made durable first, and so is what other files under its base owe. The name of a file that
+    /// was not there becomes durable later, with others.
     pub(crate) fn put(&mut self, file: FileName, bytes: &[u8]) -> io::Result<()>
         ensures closed { IsClosed self.new.kept.files.entries file }
         ensures beside { OnOk result (self.old.syncs ≡ AtRolls → IsSettledBeside self.new.owed file) }
@@ -51,13 +62,18 @@ impl<R: Files<File = File> + AllocGlobal + Clone + Drop> Folder<R> {
         let settled = self.settle_beside(file);
         self.kept.close(file);
         settled?;
-        self.size(file)?;
+        let is_new = self.size(file)?.is_none();
         let path = self.path_of(file)?;
         let draft = self.draft_of(file)?;
-        self.sync_names()?;
+        self.settle_names_for(file.base)?;
         self.put_draft(draft.as_path(), path.as_path(), bytes)?;
         self.owed.forget(file);
-        self.settle_names();
+        self.owed.keep_unchanged(file);
+        if is_new {
+            self.begin_name(file);
+        } else {
+            self.settle_names();
+        }
         Ok(())
     }
 

@@ -1,13 +1,16 @@
 // Which files may have bytes that are not on the device.
-ghost use Rattle.std.specs.Prelude.{◌≡◌, ◌≤◌, ◌<◌, [], false, length, position, IsTrue, IfSome, IfNone, OnOk, OnErr};
+ghost use Rattle.std.specs.Prelude.{◌≡◌, ◌≢◌, ◌≤◌, ◌<◌, [], false, length, position, IsTrue, IfSome, IfNone, OnOk, OnErr};
 ghost use Rattle.indexmap.specs.IndexSet.{spare};
 ghost use Rattle.dl_types.specs.declared.file.FileName.{FileName};
-ghost use Rattle.dl_disk.specs.Owed.{IsSettledBeside, KeepsLost, KeepsSettled, is_beside, is_lost, owes};
+ghost use Rattle.dl_disk.specs.Owed.{IsSettledBeside, KeepsLost, KeepsSettled, is_beside, is_clean, is_lost, is_running, is_unchanged, owes};
 
 use dl_types::FileName;
 use indexmap::IndexSet;
 use std::alloc::{AllocError, Global};
 use std::hash::{BuildHasherDefault, FoldHasher};
+
+// How many files are known to be unchanged at most. A name takes some 90 bytes.
+const UNCHANGED_FILES: usize = 65_536;
 
 type FileSet = IndexSet<FileName, BuildHasherDefault<FoldHasher>, Global>;
 
@@ -16,28 +19,36 @@ type FileSet = IndexSet<FileName, BuildHasherDefault<FoldHasher>, Global>;
 pub(crate) struct Owed {
     // Those that were written since they were last synced.
     pub(crate) files: FileSet,
-    // Those at which a sync failed since they were put.
-    pub(crate) lost: FileSet,
+    // Those at which a sync failed since they were put, and those that are synced without the disk.
+    pub(crate) doubtful: FileSet,
+    // Of these, those whose sync without the disk has not ended.
+    pub(crate) running: FileSet,
+    // Those that were not written since they were synced or put, or since their sync without the disk began. Some may be left out.
+    pub(crate) unchanged: FileSet,
 }
 
 impl Owed {
     /// Nothing was written yet.
     pub(crate) fn new(alloc: Global) -> Owed
         ensures files { result.files.keys ≡ [] }
-        ensures lost { result.lost.keys ≡ [] }
+        ensures doubtful { result.doubtful.keys ≡ [] }
     {
         Owed {
             files: IndexSet::new(alloc),
-            lost: IndexSet::new(alloc),
+            doubtful: IndexSet::new(alloc),
+            running: IndexSet::new(alloc),
+            unchanged: IndexSet::new(alloc),
         }
     }
 
     /// Notes that a file is written.
     pub(crate) fn write(&mut self, file: FileName) -> Result<(), AllocError>
         ensures owes { OnOk result (IsTrue (owes self.new file)) }
-        ensures lost { self.new.lost ≡ self.old.lost }
+        ensures changed { is_unchanged self.new file ≡ false }
+        ensures lost { KeepsLost self.old self.new }
         ensures err { OnErr result (self.new.files.keys ≡ self.old.files.keys) }
     {
+        let _ = self.unchanged.swap_remove(&file);
         self.files.insert(file)?;
         Ok(())
     }
@@ -66,35 +77,56 @@ impl Owed {
         ensures settled { owes self.new file ≡ false }
         ensures fewer { IsTrue (owes self.old file) → length self.new.files.keys < length self.old.files.keys }
         ensures others { KeepsSettled self.old self.new }
-        ensures lost { self.new.lost ≡ self.old.lost }
+        ensures rest { self.new ≡ record self.old { files = self.new.files } }
     {
         let _ = self.files.swap_remove(&file);
     }
 
+    /// Notes that all bytes of a file are on the device, so that its next sync needs no device. Without memory for that the next
+    /// sync asks the device.
+    pub(crate) fn keep_unchanged(&mut self, file: FileName)
+        ensures rest { self.new ≡ record self.old { unchanged = self.new.unchanged } }
+    {
+        if self.unchanged.len() >= UNCHANGED_FILES {
+            self.unchanged.clear();
+        }
+        let _ = self.unchanged.insert(file);
+    }
+
+    /// Whether all bytes of a file are known to be on the device.
+    pub(crate) fn is_clean(&self, file: FileName) -> bool
+        ensures { result ≡ is_clean self.now file }
+    {
+        self.unchanged.contains(&file)
+            && !self.files.contains(&file)
+            && !self.doubtful.contains(&file)
+    }
+
     /// Takes memory to note one file at which a sync fails.
     pub(crate) fn ready_loss(&mut self) -> Result<(), AllocError>
-        ensures ready { OnOk result (0 < spare self.new.lost) }
-        ensures lost { self.new.lost.keys ≡ self.old.lost.keys }
-        ensures files { self.new.files ≡ self.old.files }
+        ensures ready { OnOk result (0 < spare self.new.doubtful) }
+        ensures lost { self.new.doubtful.keys ≡ self.old.doubtful.keys }
+        ensures rest { self.new ≡ record self.old { doubtful = self.new.doubtful } }
     {
-        self.lost.reserve(1)
+        self.doubtful.reserve(1)
     }
 
     /// Notes that a sync of a file failed.
     pub(crate) fn lose(&mut self, file: FileName)
-        requires { 0 < spare self.old.lost }
+        requires { 0 < spare self.old.doubtful }
         ensures lost { IsTrue (is_lost self.new file) }
         ensures others { KeepsLost self.old self.new }
         ensures files { self.new.files ≡ self.old.files }
     {
-        let _ = self.lost.insert(file);
+        let _ = self.doubtful.insert(file);
+        let _ = self.running.swap_remove(&file);
     }
 
     /// Whether a sync of a file failed.
     pub(crate) fn is_lost(&self, file: FileName) -> bool
         ensures { result ≡ is_lost self.now file }
     {
-        self.lost.contains(&file)
+        self.doubtful.contains(&file) && !self.running.contains(&file)
     }
 
     /// Notes that a file is not there any more, or was put anew.
@@ -102,26 +134,65 @@ impl Owed {
         ensures settled { owes self.new file ≡ false }
         ensures found { is_lost self.new file ≡ false }
         ensures others { KeepsSettled self.old self.new }
-        ensures room { spare self.old.lost ≤ spare self.new.lost }
+        ensures room { spare self.old.doubtful ≤ spare self.new.doubtful }
     {
         self.settle(file);
-        let _ = self.lost.swap_remove(&file);
+        let _ = self.doubtful.swap_remove(&file);
+        let _ = self.running.swap_remove(&file);
+        let _ = self.unchanged.swap_remove(&file);
     }
 
-    /// Notes that a file has another name, in the place of what had it.
+    /// Notes that a file has another name, in the place of what had it. A sync of it that is running without the disk is then one
+    /// that failed, since its end will be noted under the old name.
     pub(crate) fn rename(&mut self, from: FileName, to: FileName)
-        requires { 0 < spare self.old.lost }
+        requires { 0 < spare self.old.doubtful }
         ensures others { KeepsSettled self.old self.new }
         ensures lost { IsTrue (is_lost self.old from) → IsTrue (is_lost self.new to) }
+        ensures running { from ≢ to → IsTrue (is_running self.old from) → IsTrue (is_lost self.new to) }
     {
         if from == to {
             return;
         }
-        let is_lost = self.is_lost(from);
+        let is_doubtful = self.doubtful.contains(&from);
         self.forget(from);
         self.forget(to);
-        if is_lost {
+        if is_doubtful {
             self.lose(to);
+        }
+    }
+}
+
+impl Owed {
+    /// Notes that a sync of a file begins that is not waited for. One at which a sync failed, or is running so already, is refused,
+    /// as want of memory is.
+    pub(crate) fn begin(&mut self, file: FileName) -> Result<(), AllocError>
+        ensures running { OnOk result (IsTrue (is_running self.new file)) }
+        ensures files { self.new.files ≡ self.old.files }
+        ensures lost { KeepsLost self.old self.new }
+    {
+        if self.doubtful.contains(&file) {
+            return Err(AllocError);
+        }
+        self.unchanged.insert(file)?;
+        self.running.insert(file)?;
+        self.doubtful.insert(file)?;
+        Ok(())
+    }
+
+    /// Notes how a sync of a file that was not waited for has ended. A file that was put anew meanwhile has nothing to do with it.
+    pub(crate) fn end(&mut self, file: FileName, synced: bool)
+        ensures failed { synced ≡ false → IsTrue (is_running self.old file) → IsTrue (is_lost self.new file) }
+        ensures settled { IsTrue synced → IsTrue (is_running self.old file) → IsTrue (is_unchanged self.old file) → owes self.new file ≡ false }
+        ensures changed { is_unchanged self.old file ≡ false → self.new.files ≡ self.old.files }
+        ensures others { KeepsSettled self.old self.new }
+        ensures lost { KeepsLost self.old self.new }
+    {
+        if !self.running.swap_remove(&file) || !synced {
+            return;
+        }
+        let _ = self.doubtful.swap_remove(&file);
+        if self.unchanged.contains(&file) {
+            self.settle(file);
         }
     }
 }

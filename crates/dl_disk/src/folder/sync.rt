@@ -1,13 +1,14 @@
 // The syncs of a folder, and of its files.
-ghost use Rattle.std.specs.Prelude.{◌≡◌, ◌≤◌, ◌<◌, false, length, IsTrue, IsErr, OnOk, OnErr};
+ghost use Rattle.std.specs.Prelude.{◌≡◌, ◌≤◌, ◌<◌, false, length, IsTrue, IsErr, IfSome, OnOk, OnErr};
 ghost use Rattle.indexmap.specs.IndexSet.{spare};
 ghost use Rattle.dl_types.specs.declared.file.FileName.{FileName};
 ghost use Rattle.dl_disk.specs.declared.syncs.Syncs.TheVariants.{AtRolls};
 ghost use Rattle.dl_disk.specs.Folder.{IsClosed, known_length};
-ghost use Rattle.dl_disk.specs.Owed.{IsSettledBeside, KeepsLost, KeepsSettled, is_lost, owes};
+ghost use Rattle.dl_disk.specs.Owed.{IsSettledBeside, KeepsLost, KeepsSettled, OwesNoName, is_lost, is_running, is_unchanged, owes};
 
 use super::calls::{Folder, if_there};
 use super::opened::Access;
+use crate::syncing::Syncing;
 use crate::syncs::Syncs;
 use dl_types::FileName;
 use std::fs::File;
@@ -18,7 +19,7 @@ use std::rt::Files;
 impl<R: Files<File = File> + AllocGlobal + Clone + Drop> Folder<R> {
     // Syncs a file that is kept open, and notes how that ended.
     fn sync_kept(&mut self, file: FileName) -> io::Result<()>
-        requires { 0 < spare self.old.owed.lost }
+        requires { 0 < spare self.old.owed.doubtful }
         ensures ok { OnOk result (owes self.new.owed file ≡ false) }
         ensures fewer { OnOk result (IsTrue (owes self.old.owed file) → length self.new.owed.files.keys < length self.old.owed.files.keys) }
         ensures others { KeepsSettled self.old.owed self.new.owed }
@@ -30,6 +31,7 @@ impl<R: Files<File = File> + AllocGlobal + Clone + Drop> Folder<R> {
         let answer = self.kept.sync(file);
         if answer.is_ok() {
             self.owed.settle(file);
+            self.owed.keep_unchanged(file);
         } else {
             self.owed.lose(file);
         }
@@ -98,41 +100,54 @@ impl<R: Files<File = File> + AllocGlobal + Clone + Drop> Folder<R> {
 
     /// Makes the names of the folder durable, unless they are.
     pub(crate) fn sync_names(&mut self) -> io::Result<()>
-        ensures durable { OnOk result (self.new.owes_names ≡ false) }
-        ensures rest { self.new ≡ record self.old { own = self.new.own; owes_names = self.new.owes_names } }
+        ensures durable { OnOk result (OwesNoName self.new.names) }
+        ensures rest { self.new ≡ record self.old { own = self.new.own; names = self.new.names } }
     {
-        if self.owes_names {
+        if self.names.is_owed() {
             self.own.sync_all()?;
-            self.owes_names = false;
+            self.names.settle();
         }
         Ok(())
     }
 
     /// Makes names durable that have just changed. If the device fails at that, the next call that needs them durable tries again.
     pub(crate) fn settle_names(&mut self)
-        ensures { self.new ≡ record self.old { own = self.new.own; owes_names = self.new.owes_names } }
+        ensures { self.new ≡ record self.old { own = self.new.own; names = self.new.names } }
     {
-        self.owes_names = true;
+        self.names.change();
         let _ = self.sync_names();
     }
 
-    // Makes the bytes of a file durable, and the names of the folder if they are owed.
+    /// Notes that a file was put under a new name. The name is made durable with others, by the next sync or the next change of
+    /// names under its base. If it cannot be noted, it is made durable now.
+    pub(crate) fn begin_name(&mut self, file: FileName)
+        ensures { self.new ≡ record self.old { own = self.new.own; names = self.new.names } }
+    {
+        if self.names.begin(file.base).is_err() {
+            self.settle_names();
+        }
+    }
+
+    // Makes the bytes of a file durable, unless they are, and the names of the folder if they are owed.
     fn sync_both(&mut self, file: FileName) -> io::Result<()>
         ensures bytes { OnOk result (owes self.new.owed file ≡ false) }
-        ensures names { OnOk result (self.new.owes_names ≡ false) }
+        ensures names { OnOk result (OwesNoName self.new.names) }
         ensures lost { KeepsLost self.old.owed self.new.owed }
     {
-        self.owed.ready_loss()?;
-        self.keep_open(file, Access::Read)?;
-        self.sync_kept(file)?;
+        if !self.owed.is_clean(file) {
+            self.owed.ready_loss()?;
+            self.keep_open(file, Access::Read)?;
+            self.sync_kept(file)?;
+        }
         self.sync_names()
     }
 
-    /// Makes what was written to a file durable, and the names of the folder if they are owed. A file at which a sync failed
-    /// before is synced, and is a fault until it is put anew, since bytes of it may be gone.
+    /// Makes what was written to a file durable, and the names of the folder if they are owed. A file that is known to owe nothing
+    /// is not asked for. A file at which a sync failed before is synced, and is a fault until it is put anew, since bytes of it may
+    /// be gone.
     pub(crate) fn sync(&mut self, file: FileName) -> io::Result<()>
         ensures bytes { OnOk result (owes self.new.owed file ≡ false) }
-        ensures names { OnOk result (self.new.owes_names ≡ false) }
+        ensures names { OnOk result (OwesNoName self.new.names) }
         ensures lost { IsTrue (is_lost self.old.owed file) → IsErr result }
         ensures err { OnErr result (IsClosed self.new.kept.files.entries file) }
     {
@@ -144,5 +159,48 @@ impl<R: Files<File = File> + AllocGlobal + Clone + Drop> Folder<R> {
             self.kept.close(file);
         }
         answer
+    }
+}
+
+impl<R: Files<File = File> + AllocGlobal + Clone + Drop> Folder<R> {
+    // A handle of a file whose sync is then running without the disk.
+    fn begin_handle(&mut self, file: FileName) -> io::Result<File>
+        ensures running { OnOk result (IsTrue (is_running self.new.owed file)) }
+        ensures owed { self.new.owed.files ≡ self.old.owed.files }
+        ensures lost { KeepsLost self.old.owed self.new.owed }
+    {
+        self.keep_open(file, Access::Read)?;
+        let handle = self.kept.handle(file)?;
+        self.owed.begin(file)?;
+        Ok(handle)
+    }
+
+    /// Begins a sync of the bytes of a file that is waited for without the disk. There is none of a file that owes none, of one at
+    /// which a sync failed or is running, and where the system has no second handle of it.
+    pub(crate) fn begin_sync(&mut self, file: FileName) -> Option<Syncing>
+        ensures running { IfSome result (λ syncing. (syncing.file ≡ file) × IsTrue (is_running self.new.owed file)) }
+        ensures owed { self.new.owed.files ≡ self.old.owed.files }
+        ensures lost { KeepsLost self.old.owed self.new.owed }
+    {
+        if self.owed.is_clean(file) {
+            return None;
+        }
+        let handle = self.begin_handle(file).ok()?;
+        Some(Syncing::of(file, handle))
+    }
+
+    /// Notes how a sync that was not waited for has ended.
+    pub(crate) fn end_sync(&mut self, syncing: Syncing, synced: bool)
+        ensures failed { synced ≡ false → IsTrue (is_running self.old.owed syncing.file) → IsTrue (is_lost self.new.owed syncing.file) }
+        ensures settled { IsTrue synced → IsTrue (is_running self.old.owed syncing.file) → IsTrue (is_unchanged self.old.owed syncing.file) → owes self.new.owed syncing.file ≡ false }
+        ensures changed { is_unchanged self.old.owed syncing.file ≡ false → self.new.owed.files ≡ self.old.owed.files }
+        ensures others { KeepsSettled self.old.owed self.new.owed }
+        ensures lost { KeepsLost self.old.owed self.new.owed }
+    {
+        let file = syncing.file();
+        if !synced {
+            self.kept.close(file);
+        }
+        self.owed.end(file, synced);
     }
 }
