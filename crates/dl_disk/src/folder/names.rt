@@ -53,7 +53,7 @@ impl<R: Files<File = File> + AllocGlobal + Clone + Drop> Folder<R> {
 
     /// Puts a whole file in the place of what was there. A stop leaves either the old file or the new one. Names under its base that
     /// are owed from an earlier change are made durable first, and so is what other files under its base owe. The name of a file that
-    /// was not there becomes durable later, with others.
+    /// was not there becomes durable later, with others, unless one of its base was moved away before.
     pub(crate) fn put(&mut self, file: FileName, bytes: &[u8]) -> io::Result<()>
         ensures closed { IsClosed self.new.kept.files.entries file }
         ensures beside { OnOk result (self.old.syncs ≡ AtRolls → IsSettledBeside self.new.owed file) }
@@ -97,6 +97,7 @@ impl<R: Files<File = File> + AllocGlobal + Clone + Drop> Folder<R> {
         self.sync_names()?;
         self.owed.ready_loss()?;
         fs::rename(&self.rt, old.as_path(), new.as_path())?;
+        self.names.move_from(from.base);
         self.owed.rename(from, to);
         self.settle_names();
         Ok(())

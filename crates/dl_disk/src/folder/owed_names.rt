@@ -1,5 +1,5 @@
 // Which names of a folder may not be durable.
-ghost use Rattle.std.specs.Prelude.{◌≡◌, ◌⊎◌, [], true, IsTrue, OnOk};
+ghost use Rattle.std.specs.Prelude.{◌≡◌, ◌⊎◌, [], true, Some, IsTrue, IsErr, OnOk};
 ghost use Rattle.dl_types.specs.declared.name.Base.{Base};
 ghost use Rattle.dl_disk.specs.Owed.{OwesNoName, owes_name};
 
@@ -16,13 +16,16 @@ type BaseSet = IndexSet<Base, BuildHasherDefault<FoldHasher>, Global>;
 /// The names of a folder that may not be durable.
 ///
 /// A file that is put under a new name replaces nothing, so its name may become durable before or after those of files of other
-/// bases. So new names of many bases wait to be made durable together.
+/// bases. So new names of many bases wait to be made durable together. A name that takes the place of a file that was moved away is
+/// none of these: without it the log would begin anew.
 #[derive(Drop)]
 pub(crate) struct OwedNames {
     // Whether any name may not be durable but those of new files.
     pub(crate) changed: bool,
     // The bases under which new files were put since the names were durable.
     pub(crate) begun: BaseSet,
+    // The base from which a file was moved last.
+    pub(crate) moved: Option<Base>,
 }
 
 impl OwedNames {
@@ -33,6 +36,7 @@ impl OwedNames {
         OwedNames {
             changed: true,
             begun: IndexSet::new(alloc),
+            moved: None,
         }
     }
 
@@ -57,11 +61,20 @@ impl OwedNames {
         self.changed = true;
     }
 
-    /// Notes that a file was put under a new name of this base. It is refused if there are too many, or no memory for one.
-    pub(crate) fn begin(&mut self, base: Base) -> Result<(), AllocError>
-        ensures { OnOk result (IsTrue (owes_name self.new base)) }
+    /// Notes that a file of this base is moved away.
+    pub(crate) fn move_from(&mut self, base: Base)
+        ensures { (self.new.moved ≡ Some base) × (self.new.changed ≡ self.old.changed) × (self.new.begun ≡ self.old.begun) }
     {
-        if self.begun.len() >= BEGUN_BASES {
+        self.moved = Some(base);
+    }
+
+    /// Notes that a file was put under a new name of this base. It is refused if a file of the base was moved away, if there are too
+    /// many such names, or no memory for one.
+    pub(crate) fn begin(&mut self, base: Base) -> Result<(), AllocError>
+        ensures noted { OnOk result (IsTrue (owes_name self.new base)) }
+        ensures moved { self.old.moved ≡ Some base → IsErr result }
+    {
+        if self.moved == Some(base) || self.begun.len() >= BEGUN_BASES {
             return Err(AllocError);
         }
         self.begun.insert(base)?;
