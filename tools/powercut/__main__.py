@@ -12,7 +12,8 @@ them, and each is judged; the next life begins with one of them. The same number
 
 What is judged is what docs/DURABILITY.md promises, with the syncs at rolls (`promises.py`):
 
-1. No log is refused that an open or a sync put on the device. A set has the files of an index that was put.
+1. No log is refused that an open or a sync put on the device. A set has the files of an index that was put. A log that was begun is
+   there from the next `sync` of any log on, or from the next change of names under its base; until then it may be gone as a whole.
 2. The sure items are there: those that were answered before a `sync` of their log was answered as done; all of the older files of
    a wrap log; what a log was begun, emptied or moved with; what was in the file of a wrap log before a change of its size. They
    may be gone where a line that was begun before the cut takes them: a roll, a truncate, a reopen, an open that empties. Within a
@@ -50,7 +51,7 @@ sys.path[1:1] = [f"{TOP}/tools/faults", f"{TOP}/tools/model"]
 import opened
 import record
 from device import Device
-from promises import Judge, cut_at
+from promises import Judge, cut_at, last_sync
 from sittings import Sittings
 from truth import Told, all_found, all_sure
 
@@ -145,6 +146,7 @@ class Trials:
             done = place
             cut = cut_at(life, place)
             cut.olds = device.olds()
+            cut.unnamed = device.unnamed(last_sync(life, place))
             for _ in range(STATES_OF_CUT):
                 texts, way = device.cut(pick)
                 yield place, cut, way, texts

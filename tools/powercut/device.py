@@ -90,6 +90,8 @@ class Device:
         self.files = {number: Inode(bytearray(texts[name])) for number, name in enumerate(sorted(texts))}
         self.names = {name: number for number, name in enumerate(sorted(texts))}
         self.later = []
+        # The bases from which files were moved.
+        self.moved = set()
 
     def add(self, place, change):
         """Does the next change of the record."""
@@ -100,6 +102,8 @@ class Device:
         elif change.kind in ("create", "rename", "unlink"):
             self.files.setdefault(change.file, Inode())
             self.later.append((place, change))
+            if change.kind == "rename" and not change.names[0].endswith(".new"):
+                self.moved.add(change.names[0].split(".")[0])
         elif change.kind in ("write", "cut"):
             self.files[change.file].later.append((place, change))
         else:
@@ -107,6 +111,19 @@ class Device:
             for _, done in inode.later:
                 apply_whole(inode.data, done)
             inode.later = []
+
+    def unnamed(self, before):
+        """The names of files that are new, where the name may not be on the device: there was no file of the name, none was moved away
+        from it, and the folder was not synced since a change of names that came behind this place of the record."""
+        names, new = dict(self.names), set()
+        for place, change in self.later:
+            target = change.names[-1]
+            base, part = target.split(".")[:2]
+            may_begin = base not in self.moved or part.isdigit()
+            if change.kind == "rename" and target not in names and place >= before and may_begin:
+                new.add(target)
+            rename(names, change)
+        return new & set(names)
 
     def olds(self):
         """By name, what files had before cuts that are not synced."""

@@ -12,13 +12,14 @@ OLD = "items of bytes that a repair had cut"
 class Cut:
     """A place of a record: for each log what it may have, from what it had before the line that is cut to what it has after it;
     how many items of each file are sure; between which logs that line moves files, and the files whose names it has changed; by
-    name, what files had before cuts of them that are not synced."""
+    name, what files had before cuts of them that are not synced; the names of new files that no sync put on the device."""
 
     allowed: dict
     sure: dict
     moving: tuple = None
     touched: set = field(default_factory=set)
     olds: dict = field(default_factory=dict)
+    unnamed: set = field(default_factory=set)
 
 
 def cut_at(life, place):
@@ -36,6 +37,14 @@ def cut_at(life, place):
     }
     done = [change for change in changes[:place] if change.line == changes[place].line]
     return Cut(allowed, line.sure_before, line.moving, {name for change in done for name in change.names})
+
+
+def last_sync(life, place):
+    """The place of a record behind which no `sync` was answered as done before a cut."""
+    changes, lines = life.changes, life.lines
+    line = len(lines) if place == len(changes) else changes[place].line
+    synced = [at for at in range(line) if lines[at].text.split(" ")[1:2] == ["sync"] and lines[at].answer.split(" | ")[0] == "done"]
+    return next((at for at, change in enumerate(changes) if synced and change.line > synced[-1]), 0 if not synced else len(changes))
 
 
 class Judge:
@@ -64,6 +73,12 @@ class Judge:
             if family == target and touches(cut.touched, target):
                 return None
         sure = {generation: count for (own, generation), count in cut.sure.items() if own == family}
+        if f"{family[0]}.{'log' if family[1] == 'halt' else 'idx'}" in cut.unnamed and not found.is_there:
+            self.seen["logs that are not there, since nothing was synced after they were begun"] += 1
+            return None
+        for state in states:
+            if state.is_there and not state.refusal and f"{family[0]}.{state.files[-1].number}" in cut.unnamed:
+                sure[state.files[-1].generation] = 0
         reasons = []
         for state in reversed(states):
             reason, kinds = why_no_state(found, state, sure, texts, family[0], cut.olds)
