@@ -47,7 +47,9 @@ pub enum CaseFault {
     Starves(u64),
     #[error("line {0} is not kept as it is answered, or was kept before")]
     BadHistory(u64),
-    #[error("a log has more files or items than a sweep reads")]
+    #[error("the files that a fault leaves are not opened")]
+    NotOpened,
+    #[error("a log has more files or items than are read")]
     Unread,
     #[error("an answer is no text")]
     NoText,

@@ -88,6 +88,11 @@ impl Seen {
     pub fn is_open(&self) -> bool {
         is_opened(self.opened.as_str())
     }
+
+    /// Whether the log was opened and read to its end.
+    pub fn is_read(&self) -> bool {
+        self.is_open() && self.items.as_str().starts_with(ITEMS)
+    }
 }
 
 /// Whether an open answered that a log is open, and repaired if it had to be.

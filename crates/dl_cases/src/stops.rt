@@ -2,7 +2,7 @@
 mod history;
 mod judge;
 
-use self::history::{History, history_of};
+use self::history::History;
 use self::judge::judge_logs;
 use crate::case::{Failure, Line, Step};
 use crate::fault::{CaseFault, How};
@@ -109,8 +109,9 @@ fn histories_of(
     let mut logs = Vec::new(alloc);
     for (at, line) in lines.iter().enumerate() {
         if let Some(log) = first_opened(lines.get(..at).unwrap_or(&[]), *line) {
-            let mut hub = hub_over(alloc, files.copy()?, None, blocks)?;
-            logs.push(history_of(alloc, &mut hub, lines, log, at, number)?)?;
+            let mut history = History::new(alloc, log, line.text, at)?;
+            history.run(alloc, blocks, files, lines, number)?;
+            logs.push(history)?;
         }
     }
     Ok(logs)

@@ -124,8 +124,8 @@ fn run_failing(plan: &Plan<'_>, failure: Failure, told: &mut String) -> Result<u
     run_on(plan, failure.fuse, &mut hub, told)
 }
 
-// Runs all lines on a hub, mends its device, lets turns write what waits, and judges what each log has then. Returns how many calls
-// the device counted in the lines.
+// Runs all lines on a hub, and judges what a stop would leave. Then mends the device, lets turns write what waits, and judges what each
+// log has. Returns how many calls the device counted in the lines.
 fn run_on(
     plan: &Plan<'_>,
     fuse: Fuse,
@@ -133,10 +133,11 @@ fn run_on(
     told: &mut String,
 ) -> Result<u64, CaseFault> {
     let answers = answers_to(plan.alloc, hub, plan.script.as_str())?;
+    let answered = answered_in(plan, answers.as_str())?;
     let calls = hub.disk().passed();
+    judge_files(plan, answered.as_slice(), hub.disk().inner(), told)?;
     hub.mend();
     turn_until_idle(plan, hub)?;
-    let answered = answered_in(plan, answers.as_str())?;
     judge_logs(plan, fuse, answered.as_slice(), hub, told)?;
     Ok(calls)
 }
@@ -164,6 +165,22 @@ fn answered_in<'a>(plan: &'a Plan<'_>, answers: &'a str) -> Result<Vec<Answered<
     Ok(answered)
 }
 
+// Opens each log on a copy of the files that the lines left, and reads it to its end.
+fn judge_files(
+    plan: &Plan<'_>,
+    answered: &[Answered<'_>],
+    files: &MemoryDisk,
+    told: &mut String,
+) -> Result<(), CaseFault> {
+    for log in &plan.logs {
+        let seen = log.probe.look_at(plan.alloc, files, plan.blocks)?;
+        if !seen.is_read() && !is_parted(log, answered, &seen) {
+            return Err(refused(&seen, CaseFault::NotOpened, told)?);
+        }
+    }
+    Ok(())
+}
+
 // Opens each log again, and judges what it has.
 fn judge_logs(
     plan: &Plan<'_>,
@@ -174,36 +191,49 @@ fn judge_logs(
 ) -> Result<(), CaseFault> {
     for log in &plan.logs {
         let seen = log.probe.look(plan.alloc, hub)?;
-        judge_log(plan, log, fuse, answered, &seen, told)?;
+        if !is_parted(log, answered, &seen) && !is_kept(plan, log, fuse, answered, &seen)? {
+            return Err(refused(&seen, CaseFault::Loses(plan.sweep.number), told)?);
+        }
     }
     Ok(())
 }
 
-// Judges what a log has that is opened again. Where a move of its files has failed they may lie at two bases.
-fn judge_log(
+// Whether a log has what its lines logged.
+fn is_kept(
     plan: &Plan<'_>,
     log: &Log<'_>,
     fuse: Fuse,
     answered: &[Answered<'_>],
     seen: &Seen,
-    told: &mut String,
-) -> Result<(), CaseFault> {
-    let (opened, items) = (seen.opened.as_str(), seen.items.as_str());
-    if opened == PARTED && answered.iter().any(|done| parts(*done, log.name)) {
-        return Ok(());
+) -> Result<bool, AllocError> {
+    if !seen.is_read() {
+        return Ok(false);
     }
     let begun = items_of(plan.alloc, log.begun.items.as_str())?;
-    let has = items_of(plan.alloc, items)?;
-    let (begun, has) = (begun.as_slice(), has.as_slice());
-    if seen.is_open() && may_have(plan.alloc, log.name, begun, answered, fuse, has)? {
-        return Ok(());
-    }
-    tell(told, "\n  opened: ", opened.as_bytes())?;
-    tell(told, "\n  got:    ", items.as_bytes())?;
-    Err(CaseFault::Loses(plan.sweep.number))
+    let has = items_of(plan.alloc, seen.items.as_str())?;
+    may_have(
+        plan.alloc,
+        log.name,
+        begun.as_slice(),
+        answered,
+        fuse,
+        has.as_slice(),
+    )
+}
+
+// Whether the files of a log are at two bases, since a move of them has failed.
+fn is_parted(log: &Log<'_>, answered: &[Answered<'_>], seen: &Seen) -> bool {
+    seen.opened.as_str() == PARTED && answered.iter().any(|done| parts(*done, log.name))
 }
 
 // Whether a line is a move of a log's files that met a fault.
 fn parts(done: Answered<'_>, log: &str) -> bool {
     is_call_on(done.line, log) && verb_of(done.line.text) == Some("reopen") && is_fault(done.answer)
+}
+
+// Why a case fails, with what was seen that may not be.
+fn refused(seen: &Seen, fault: CaseFault, told: &mut String) -> Result<CaseFault, CaseFault> {
+    tell(told, "\n  opened: ", seen.opened.as_bytes())?;
+    tell(told, "\n  got:    ", seen.items.as_bytes())?;
+    Ok(fault)
 }

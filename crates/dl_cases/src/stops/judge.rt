@@ -54,7 +54,7 @@ fn judge_seen(
         return Ok(());
     }
     let has = items_of(plan.alloc, seen.items.as_str())?;
-    if seen.is_open() && log.may_have(at, has.as_slice()) {
+    if seen.is_read() && log.may_have(at, has.as_slice()) {
         return Ok(());
     }
     refuse(plan, at, seen, told)
