@@ -5,7 +5,7 @@ from model import Model
 
 BLOCKS = (1, 2, 16)
 # What a case may ask for that a run of its lines without faults passes over.
-ASIDE = ("sweep", "keeps", "stops", "refuse", "spoil", "blocks", "file", "again")
+ASIDE = ("sweep", "stops", "refuse", "spoil", "blocks", "file", "again")
 
 
 def spelt(word):

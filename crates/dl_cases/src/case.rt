@@ -50,17 +50,10 @@ pub struct LateFailure {
     pub fuse: Fuse,
 }
 
-/// A sweep: the case is also run with a device that fails at each of its calls on the files of a base in turn.
+/// A sweep: the case is also run with a device that fails at each of its calls on the files of a base in turn, and its logs keep what was
+/// logged.
 #[derive(Clone, Copy)]
 pub struct Sweep {
-    /// The number of the line in the case's file, counted from 1.
-    pub number: u64,
-    pub base: Base,
-}
-
-/// A log that keeps its items: the case is also run with one call on the files of its base failing, each in turn.
-#[derive(Clone, Copy)]
-pub struct Keep {
     /// The number of the line in the case's file, counted from 1.
     pub number: u64,
     pub base: Base,
@@ -92,7 +85,6 @@ pub enum Step<'a> {
     /// The case is also stopped at each call of the device. The number is that of the line in the case's file.
     Stops(u64),
     Spoil(Spoil),
-    Keep(Keep),
     /// The case is also run with each call refused memory until it has enough. The number is that of the line in the case's
     /// file.
     Refuse(u64),

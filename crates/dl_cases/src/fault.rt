@@ -39,12 +39,6 @@ pub enum CaseFault {
     Loses(u64),
     #[error("line {0} has a fault after which turns never find that nothing waits")]
     NotIdle(u64),
-    #[error("line {0} has a fault after which it, a sync or a close is not done")]
-    NotDone(u64),
-    #[error("line {0} has a fault after which a sync or a close does not keep the items")]
-    NotKept(u64),
-    #[error("line {0} does not tell the error status as it changes")]
-    BadStatus(u64),
     #[error("line {0} is stopped and loses items")]
     StopLoses(u64),
     #[error("line {0} is of a case none of whose calls is refused memory")]
@@ -55,7 +49,7 @@ pub enum CaseFault {
     BadHistory(u64),
     #[error("the files that a fault leaves are not opened")]
     NotOpened,
-    #[error("a log has more files or items than a sweep reads")]
+    #[error("a log has more files or items than are read")]
     Unread,
     #[error("an answer is no text")]
     NoText,

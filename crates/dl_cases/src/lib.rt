@@ -9,10 +9,10 @@ mod fault;
 mod fuse;
 mod heap;
 mod job;
-mod keeps;
 mod kept;
 mod memory;
 mod order;
+mod probe;
 mod refuse;
 mod script;
 mod spoil;
@@ -21,10 +21,11 @@ mod sweep;
 mod told;
 mod tools;
 mod trial;
+mod words;
 
 pub use answer::bytes_of;
 pub use case::{
-    BAD_LINE, Failure, Keep, LaidFile, LateFailure, Line, Spoil, Step, Sweep, Tool, blocks_of,
+    BAD_LINE, Failure, LaidFile, LateFailure, Line, Spoil, Step, Sweep, Tool, blocks_of,
     count_answers, has_failure, steps_of,
 };
 pub use fault::{CaseFault, How};

@@ -1,6 +1,6 @@
 // What a case asks of the runner.
 use crate::alone::{Deed, deed_of};
-use crate::case::{Failure, Keep, LaidFile, LateFailure, Spoil, Step, Sweep, Tool};
+use crate::case::{Failure, LaidFile, LateFailure, Spoil, Step, Sweep, Tool};
 use dl_disk::Fuse;
 use dl_types::{Base, FileName};
 
@@ -10,10 +10,6 @@ pub fn order_of(text: &str, number: u64) -> Option<Step<'_>> {
     match order {
         "blocks" => Some(Step::Blocks(others)),
         "sweep" => Some(Step::Sweep(Sweep {
-            number,
-            base: Base::parse(others.as_bytes())?,
-        })),
-        "keeps" => Some(Step::Keep(Keep {
             number,
             base: Base::parse(others.as_bytes())?,
         })),
@@ -110,12 +106,7 @@ pub fn may_be_repeated(step: Step<'_>) -> bool {
 fn is_of_the_case(step: Step<'_>) -> bool {
     matches!(
         step,
-        Step::Blocks(_)
-            | Step::Sweep(_)
-            | Step::Stops(_)
-            | Step::Spoil(_)
-            | Step::Keep(_)
-            | Step::Refuse(_)
+        Step::Blocks(_) | Step::Sweep(_) | Step::Stops(_) | Step::Spoil(_) | Step::Refuse(_)
     )
 }
 

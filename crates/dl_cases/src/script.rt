@@ -74,6 +74,18 @@ fn answer<D: Disk + Drop>(
     }
 }
 
+/// What a script answers on a hub.
+pub fn answers_to<D: Disk + Drop>(
+    alloc: Global,
+    hub: &mut Hub<D>,
+    script: &str,
+) -> Result<String, CaseFault> {
+    let mut input = script.as_bytes();
+    let mut output = Vec::new(alloc);
+    run_script(alloc, &mut input, &mut output, hub).map_err(CaseFault::Script)?;
+    String::from_utf8(output).map_err(|_| CaseFault::NoText)
+}
+
 /// The text of a script with these lines.
 pub fn script_of(alloc: Global, lines: &[Line<'_>]) -> Result<String, AllocError> {
     let mut text = String::new(alloc);

@@ -1,15 +1,11 @@
 // A case one of whose files is changed at each of its bytes, and cut at each of its places.
-use crate::case::{Line, Spoil, Step};
+use crate::case::{Spoil, Step};
 use crate::fault::{CaseFault, How};
 use crate::memory::laid_files;
+use crate::probe::{NO_LOG, PARTED, Probe, Seen};
 use crate::script::{lines_of, tell};
-use crate::sweep::course::opens_of;
-use crate::sweep::items::{
-    NO_LOG, OPENED, PARTED, answers_of, is_repaired, opened_in, probe_of, seen_in,
-};
-use crate::sweep::opened_log;
-use crate::sweep::run::run_hub;
 use crate::trial::Trial;
+use crate::words::opened_by;
 use dl_disk::MemoryDisk;
 use std::alloc::Global;
 
@@ -21,10 +17,7 @@ struct Plan {
     spoil: Spoil,
     files: MemoryDisk,
     bytes: Vec<u8>,
-    // The line that opens the log, and the same open with no size.
-    opens: String,
-    // The lines that read all items of the log.
-    probe: String,
+    probe: Probe,
 }
 
 /// Opens the log of a case on each change of the files that it asks for, and reads it to its end.
@@ -49,7 +42,7 @@ fn plan_of(
     let number = spoil.number;
     let lines = lines_of(alloc, steps)?;
     let line = lines.first().ok_or(CaseFault::BadOrder(number))?;
-    let log = opened_log(*line).ok_or(CaseFault::BadOrder(number))?;
+    let log = opened_by(*line).ok_or(CaseFault::BadOrder(number))?;
     let files = laid_files(alloc, steps)?;
     let bytes = files.get(spoil.file).ok_or(CaseFault::BadOrder(number))?;
     let bytes = Vec::from_slice(alloc, bytes)?;
@@ -59,8 +52,7 @@ fn plan_of(
         spoil,
         files,
         bytes,
-        opens: opens_of(alloc, line.text)?,
-        probe: probe_of(alloc, log)?,
+        probe: Probe::new(alloc, line.text, log)?,
     })
 }
 
@@ -102,27 +94,24 @@ fn change_one(plan: &Plan, at: usize, trial: &mut Trial) -> Result<(), CaseFault
     Ok(())
 }
 
-// Opens the log on files one of which has this text, and judges what is answered.
+// Opens the log on files one of which has this text, and reads it.
 fn try_text(plan: &Plan, text: &[u8], told: &mut String) -> Result<(), CaseFault> {
     let mut files = plan.files.copy()?;
     files.set(plan.spoil.file, Vec::from_slice(plan.alloc, text)?)?;
-    let (opens, probe) = (plan.opens.as_str(), plan.probe.as_str());
-    let run = run_hub(plan.alloc, plan.blocks, &files, None, opens, probe)?;
-    let opened = opened_in(run.first.as_str());
-    let answers = answers_of(plan.alloc, run.second.as_str())?;
-    let seen = seen_in(plan.alloc, answers.as_slice())?;
-    let is_open = opened == OPENED || is_repaired(opened);
-    if is_open && is_read(seen.as_str()) || is_refused(opened) && seen.as_str() == NO_LOG {
+    let seen = plan.probe.look_at(plan.alloc, &files, plan.blocks)?;
+    judge(plan, &seen, told)
+}
+
+// Judges what is answered on spoilt files. A log that is open is read to its end, or to bad bytes of an older file.
+fn judge(plan: &Plan, seen: &Seen, told: &mut String) -> Result<(), CaseFault> {
+    let (opened, items) = (seen.opened.as_str(), seen.items.as_str());
+    let is_cut = seen.is_open() && items.starts_with("E23 ");
+    if seen.is_read() || is_cut || is_refused(opened) && items == NO_LOG {
         return Ok(());
     }
     tell(told, "\n  opened: ", opened.as_bytes())?;
-    tell(told, "\n  got:    ", seen.as_bytes())?;
+    tell(told, "\n  got:    ", items.as_bytes())?;
     Err(CaseFault::Differs(plan.spoil.number))
-}
-
-// Whether a log was read to its end, or to bad bytes of an older file.
-fn is_read(seen: &str) -> bool {
-    seen.starts_with("items") || seen.starts_with("E23 ")
 }
 
 // Whether an open says that files are none of a log.

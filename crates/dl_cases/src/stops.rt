@@ -2,18 +2,16 @@
 mod history;
 mod judge;
 
-use self::history::{History, history_of};
+use self::history::History;
 use self::judge::judge_logs;
-use crate::alone::{Deed, deed_of};
-use crate::case::{Line, Step};
+use crate::case::{Failure, Line, Step};
 use crate::fault::{CaseFault, How};
 use crate::memory::{MemoryHub, hub_over, laid_files};
 use crate::order::may_be_repeated;
-use crate::script::{lines_of, script_of};
-use crate::sweep::items::verb_of;
-use crate::sweep::run::{answers_to, run_over};
+use crate::script::{answers_to, lines_of, script_of};
 use crate::trial::Trial;
-use dl_disk::{Fuse, FuseDisk, MemoryDisk};
+use crate::words::first_opened;
+use dl_disk::{Fuse, MemoryDisk};
 use std::alloc::Global;
 
 // How many calls a run may have before it is stopped.
@@ -47,7 +45,7 @@ pub fn run_stops(alloc: Global, steps: &[Step<'_>], trial: &mut Trial) -> Result
     if !steps.iter().all(|step| may_be_repeated(*step)) {
         return Err(CaseFault::BadOrder(number));
     }
-    let plan = plan_of(alloc, steps, number, trial)?;
+    let plan = plan_of(alloc, steps, number, trial.blocks)?;
     stop_each(&plan, trial)
 }
 
@@ -56,14 +54,13 @@ fn plan_of<'a>(
     alloc: Global,
     steps: &[Step<'a>],
     number: u64,
-    trial: &mut Trial,
+    blocks: u32,
 ) -> Result<Plan<'a>, CaseFault> {
-    let blocks = trial.blocks;
     let lines = lines_of(alloc, steps)?;
     let script = script_of(alloc, lines.as_slice())?;
     let files = laid_files(alloc, steps)?;
     let calls = calls_of(alloc, blocks, &files, lines.as_slice())?;
-    let logs = histories_of(alloc, steps, lines.as_slice(), &files, number, trial)?;
+    let logs = histories_of(alloc, blocks, lines.as_slice(), &files, number)?;
     Ok(Plan {
         alloc,
         blocks,
@@ -104,36 +101,20 @@ fn count_calls(
 // What each log that the lines open holds after each of them.
 fn histories_of(
     alloc: Global,
-    steps: &[Step<'_>],
+    blocks: u32,
     lines: &[Line<'_>],
     files: &MemoryDisk,
     number: u64,
-    trial: &mut Trial,
 ) -> Result<Vec<History>, CaseFault> {
     let mut logs = Vec::new(alloc);
     for (at, line) in lines.iter().enumerate() {
         if let Some(log) = first_opened(lines.get(..at).unwrap_or(&[]), *line) {
-            logs.push(history_of(alloc, steps, log, at, files, number, trial)?)?;
+            let mut history = History::new(alloc, log, line.text, at)?;
+            history.run(alloc, blocks, files, lines, number)?;
+            logs.push(history)?;
         }
     }
     Ok(logs)
-}
-
-// The log that a line opens, if no line before it does.
-fn first_opened<'a>(before: &[Line<'_>], line: Line<'a>) -> Option<&'a str> {
-    let log = opened_by(line)?;
-    before
-        .iter()
-        .all(|other| opened_by(*other) != Some(log))
-        .then_some(log)
-}
-
-// The log that a line opens.
-fn opened_by(line: Line<'_>) -> Option<&str> {
-    match deed_of(line) {
-        Deed::Call { log, .. } if verb_of(line.text) == Some("open") => Some(log),
-        _ => None,
-    }
 }
 
 // Stops the process before its first call, before the second and so on, until no call is left.
@@ -151,7 +132,17 @@ fn stop_each(plan: &Plan<'_>, trial: &mut Trial) -> Result<(), CaseFault> {
 
 // The files that are left if no call is made after so many.
 fn files_of_stop(plan: &Plan<'_>, calls: u64) -> Result<MemoryDisk, CaseFault> {
-    let disk = FuseDisk::new(plan.alloc, plan.files.copy()?, None, calls, Fuse::All);
-    let run = run_over(plan.alloc, plan.blocks, disk, plan.script.as_str(), "")?;
-    Ok(run.files)
+    let stop = Failure {
+        base: None,
+        calls,
+        fuse: Fuse::All,
+    };
+    let mut hub = hub_over(plan.alloc, plan.files.copy()?, Some(stop), plan.blocks)?;
+    files_after(plan, &mut hub)
+}
+
+// The files that a hub leaves on which the lines are run.
+fn files_after(plan: &Plan<'_>, hub: &mut MemoryHub) -> Result<MemoryDisk, CaseFault> {
+    answers_to(plan.alloc, hub, plan.script.as_str())?;
+    Ok(hub.disk().inner().copy()?)
 }

@@ -1,7 +1,6 @@
 // A run of a case, and all that are made of it in memory.
 use crate::case::Step;
 use crate::fault::{CaseFault, How};
-use crate::keeps::run_keeps;
 use crate::memory::run_in_memory;
 use crate::refuse::run_refusals;
 use crate::spoil::run_spoils;
@@ -22,12 +21,11 @@ pub struct Trial {
     pub told: String,
 }
 
-/// Runs the steps of a case in memory, under each failure of its sweeps and of the logs that keep their items, stopped at
-/// each call, over spoilt files, and with each call refused memory. `trial` tells which run fails.
+/// Runs the steps of a case in memory, under each failure of its sweeps, stopped at each call, over spoilt files, and with each call
+/// refused memory. `trial` says which run fails.
 pub fn run_trials(alloc: Global, steps: &[Step<'_>], trial: &mut Trial) -> Result<(), CaseFault> {
     run_in_memory(alloc, steps, trial)?;
     run_sweeps(alloc, steps, trial)?;
-    run_keeps(alloc, steps, trial)?;
     run_stops(alloc, steps, trial)?;
     run_spoils(alloc, steps, trial)?;
     run_refusals(alloc, steps, trial)

@@ -1,15 +1,11 @@
 // What a log may have in the files that a stop leaves.
 use super::Plan;
 use super::history::History;
-use crate::alone::{Deed, deed_of};
 use crate::case::Line;
 use crate::fault::CaseFault;
+use crate::probe::{PARTED, Probe, Seen, items_of};
 use crate::script::tell;
-use crate::sweep::course::opens_of;
-use crate::sweep::items::{
-    OPENED, PARTED, answers_of, is_repaired, items_of, opened_in, probe_of, seen_in, verb_of,
-};
-use crate::sweep::run::{Run, run_hub};
+use crate::words::{is_call_on, verb_of};
 use dl_disk::MemoryDisk;
 use std::alloc::{AllocError, Global};
 
@@ -37,9 +33,8 @@ fn judge_log(
     told: &mut String,
 ) -> Result<(), CaseFault> {
     let target = plan.lines.get(at).and_then(|line| target_of(*line, log));
-    let (opens, probe) = (log.opens.as_str(), log.probe.as_str());
-    let run = run_hub(plan.alloc, plan.blocks, files, None, opens, probe)?;
-    judge_run(plan, log, at, &run, target.is_some(), told)?;
+    let seen = log.probe.look_at(plan.alloc, files, plan.blocks)?;
+    judge_seen(plan, log, at, &seen, target.is_some(), told)?;
     match target {
         None => Ok(()),
         Some(target) => judge_target(plan, log, at, files, target, told),
@@ -47,25 +42,22 @@ fn judge_log(
 }
 
 // Judges what a log has that is opened again. Where its files were being moved they may lie at two bases.
-fn judge_run(
+fn judge_seen(
     plan: &Plan<'_>,
     log: &History,
     at: usize,
-    run: &Run,
+    seen: &Seen,
     is_moved: bool,
     told: &mut String,
 ) -> Result<(), CaseFault> {
-    let opened = opened_in(run.first.as_str());
-    if is_moved && opened == PARTED {
+    if is_moved && seen.opened.as_str() == PARTED {
         return Ok(());
     }
-    let seen = seen_by(plan.alloc, run)?;
-    let has = items_of(plan.alloc, seen.as_str())?;
-    let is_open = opened == OPENED || is_repaired(opened);
-    if is_open && log.may_have(at, has.as_slice()) {
+    let has = items_of(plan.alloc, seen.items.as_str())?;
+    if seen.is_read() && log.may_have(at, has.as_slice()) {
         return Ok(());
     }
-    refuse(plan, at, opened, seen.as_str(), told)
+    refuse(plan, at, seen, told)
 }
 
 // Opens what a log was being moved to, and judges it: all that the log had, with nothing to repair, or nothing.
@@ -77,58 +69,37 @@ fn judge_target(
     target: &str,
     told: &mut String,
 ) -> Result<(), CaseFault> {
-    let open = opens_at(plan.alloc, log, target)?;
-    let probe = probe_of(plan.alloc, target)?;
-    let (open, probe) = (open.as_str(), probe.as_str());
-    let run = run_hub(plan.alloc, plan.blocks, files, None, open, probe)?;
-    let opened = opened_in(run.first.as_str());
-    let seen = seen_by(plan.alloc, &run)?;
-    let has = items_of(plan.alloc, seen.as_str())?;
-    if opened == OPENED && (has.is_empty() || log.had(at, has.as_slice())) {
+    let probe = target_probe(plan.alloc, log, target)?;
+    let seen = probe.look_at(plan.alloc, files, plan.blocks)?;
+    let has = items_of(plan.alloc, seen.items.as_str())?;
+    if seen.is_whole() && (has.is_empty() || log.had(at, has.as_slice())) {
         return Ok(());
     }
-    refuse(plan, at, opened, seen.as_str(), told)
+    refuse(plan, at, &seen, told)
 }
 
-// The first open of a log, of the log that it is moved to, which is not to be repaired, and the same open with no size.
-fn opens_at(alloc: Global, log: &History, target: &str) -> Result<String, AllocError> {
-    let open = log.opens.lines().next().unwrap_or("");
-    let mut text = format!(in alloc; "1 open {target}")?;
-    for word in open.split(' ').skip(3) {
-        text.push(' ')?;
-        text.push_str(word)?;
+// The probe of the log that a log is moved to: its first open, of that log, which is not to be repaired.
+fn target_probe(alloc: Global, log: &History, target: &str) -> Result<Probe, AllocError> {
+    let mut open = format!(in alloc; "1 open {target}")?;
+    for word in log.open.as_str().split(' ').skip(3) {
+        open.push(' ')?;
+        open.push_str(word)?;
     }
-    text.push_str(" repair=no")?;
-    opens_of(alloc, text.as_str())
+    open.push_str(" repair=no")?;
+    Probe::new(alloc, open.as_str(), target)
 }
 
-// What the second script of a run says that a log has.
-fn seen_by(alloc: Global, run: &Run) -> Result<String, CaseFault> {
-    let answers = answers_of(alloc, run.second.as_str())?;
-    seen_in(alloc, answers.as_slice())
-}
-
-// Says what an open and a probe answered, which may not be after a stop within a line.
-fn refuse(
-    plan: &Plan<'_>,
-    at: usize,
-    opened: &str,
-    seen: &str,
-    told: &mut String,
-) -> Result<(), CaseFault> {
-    tell(told, "\n  opened: ", opened.as_bytes())?;
-    tell(told, "\n  got:    ", seen.as_bytes())?;
+// Says what an open answered and what its log had, which may not be after a stop within a line.
+fn refuse(plan: &Plan<'_>, at: usize, seen: &Seen, told: &mut String) -> Result<(), CaseFault> {
+    tell(told, "\n  opened: ", seen.opened.as_bytes())?;
+    tell(told, "\n  got:    ", seen.items.as_bytes())?;
     let line = plan.lines.get(at).map_or(plan.number, |line| line.number);
     Err(CaseFault::StopLoses(line))
 }
 
 // The base that a line moves the files of a log to, if it does.
 fn target_of<'a>(line: Line<'a>, log: &History) -> Option<&'a str> {
-    match deed_of(line) {
-        Deed::Call { log: called, .. } if called == log.name.as_str() => {}
-        _ => return None,
-    }
-    if verb_of(line.text) != Some("reopen") {
+    if !is_call_on(line, log.name.as_str()) || verb_of(line.text) != Some("reopen") {
         return None;
     }
     line.text.split(' ').skip(3).next()
