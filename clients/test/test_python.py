@@ -6,6 +6,7 @@ import time
 
 sys.path.insert(0, os.path.join(os.path.dirname(os.path.abspath(__file__)), "..", "python"))
 import dlog  # noqa: E402
+import ends_python  # noqa: E402
 
 PROGRAM = sys.argv[1]
 
@@ -177,3 +178,5 @@ def run(scenario, *arguments):
 
 for each in SCENARIOS:
     run(each)
+for each in ends_python.SCENARIOS:
+    run(each, PROGRAM)
