@@ -109,9 +109,9 @@ struct dlog {
     char fault[1280];
 };
 
-/* Starts `program serve --folder folder`, in a session of its own, so that no signal to the group of
- * this program ends it, and waits until it serves. SIGPIPE is ignored from then on. After a fault
- * nothing is left to stop. */
+/* Starts `program serve --folder folder` and waits until it serves. It is in a session of its own and
+ * ignores SIGTERM, SIGINT and SIGHUP, so that no signal that is meant for this program ends it. SIGPIPE
+ * is ignored here from then on. After a fault nothing is left to stop. */
 int dlog_start(struct dlog *dlog, const char *program, const char *folder);
 int dlog_start_with(struct dlog *dlog, const char *program, const char *folder,
                     const struct dlog_settings *settings);

@@ -22,6 +22,9 @@ static void become(const char *program, char *const words[], const int ends[3])
     const char *why = ": it cannot be started\n";
 
     setsid();
+    signal(SIGTERM, SIG_IGN);
+    signal(SIGINT, SIG_IGN);
+    signal(SIGHUP, SIG_IGN);
     for (int i = 0; i < 3; i++)
         dup2(ends[i], i);
     execvp(program, words);

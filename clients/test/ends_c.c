@@ -89,6 +89,8 @@ static void a_signal_to_the_group(const char *parent)
         CHECK(dlog_start_with(&dlog, program, folder, &patient) == 0);
         open_log(&dlog, "kept", DLOG_OPENED);
         CHECK(count_items(&dlog, "kept") == MANY);
+        CHECK(signals[i] == SIGKILL || kill(dlog.process, signals[i]) == 0);
+        CHECK(log_item(&dlog, "kept", "later") == 0);
         CHECK(dlog_stop(&dlog) == 0);
     }
 }

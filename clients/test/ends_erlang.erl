@@ -18,8 +18,9 @@ all() ->
 
 %% The processes of the servers.
 programs() ->
-    {ok, Name} = {ok, os:find_executable(os:getenv("DLOG_PROGRAM"))},
-    [Id || Port <- erlang:ports(), {name, Name} =:= erlang:port_info(Port, name), {os_pid, Id} <- [erlang:port_info(Port, os_pid)]].
+    [Id || Port <- erlang:ports(), {connected, Pid} <- [erlang:port_info(Port, connected)],
+           {dictionary, Known} <- [erlang:process_info(Pid, dictionary)],
+           {'$initial_call', {dlog_server, init, 1}} <- Known, {os_pid, Id} <- [erlang:port_info(Port, os_pid)]].
 
 until(Fact) -> until(Fact, ?PATIENCE div 10).
 
@@ -45,6 +46,8 @@ group(File) ->
          receive {Node, {exit_status, _}} -> ok after ?PATIENCE -> error(not_ended) end,
          {ok, kept} = waited(fun() -> dlog:open([{name, kept}, {file, Own ++ "/log"}]) end),
          ?MANY = length(items(kept, dlog:chunk(kept, start), [])),
+         [ok = signal(Spared, Program) || Spared <- ["TERM", "INT", "HUP"], Program <- programs()],
+         ok = dlog:log(kept, later),
          ok = dlog:close(kept)
      end || Name <- ["TERM", "KILL"]].
 

@@ -48,6 +48,9 @@ def a_signal_to_the_group_spares_the_server(program, folder):
         with dlog.Server(own, program, wait=PATIENCE) as server:
             log = server.client(1).open("kept")
             assert log.repaired is None and len(list(log)) == MANY, number
+            if number != signal.SIGKILL:
+                os.kill(server.pid, number)
+                log.log(b"later")
 
 
 def a_killed_server_is_reported_to_each_caller(program, folder):
@@ -80,7 +83,7 @@ def a_killed_server_is_reported_to_each_caller(program, folder):
 
 def a_server_reports_why_it_does_not_start(program, folder):
     missing = os.path.join(folder, "missing")
-    assert "No such file" in str(raised(dlog.NotStarted, dlog.Server, folder, missing))
+    assert "no such program" in str(raised(dlog.NotStarted, dlog.Server, folder, missing))
     no_folder = raised(dlog.NotStarted, dlog.Server, missing, program)
     assert no_folder.status == 1 and "missing" in no_folder.words, no_folder
     with dlog.Server(folder, program):

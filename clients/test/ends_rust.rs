@@ -84,6 +84,11 @@ fn a_signal_to_the_group_spares_the_server(place: &Place) -> Outcome {
         let server = serve(place, &folder)?;
         assert_eq!(server.open(&log, &Options::default())?, Reply::Opened);
         assert_eq!(all(&server, &log)?.len(), MANY);
+        for name in ["TERM", "INT", "HUP"] {
+            signal(name, &server.id().to_string());
+            server.log(&log, &["later"])?;
+        }
+        server.stop()?;
     }
     Ok(())
 }

@@ -4,6 +4,8 @@
 -export([setting/1, start/1, why_not/1, end_of/2]).
 
 -define(LOOK_AGAIN, 10).
+%% The program ignores what is meant to end the node.
+-define(SPARED, "trap '' TERM INT HUP; exec \"$0\" \"$@\"").
 
 %% A setting of the application dlog, or of the environment.
 -spec setting(program | blocks | unsynced_rolls | wait | restart) -> term().
@@ -30,7 +32,8 @@ start(Folder) ->
         false -> {error, {no_program, Name}};
         Path ->
             try
-                {ok, open_port({spawn_executable, Path}, [{args, arguments(Folder)}, stream, binary, exit_status])}
+                {ok, open_port({spawn_executable, "/bin/sh"},
+                               [{args, ["-c", ?SPARED, Path | arguments(Folder)]}, stream, binary, exit_status])}
             catch
                 error:Why -> {error, {no_program, Name, Why}}
             end

@@ -76,13 +76,11 @@ greeted(Port, Read) ->
 
 %% The status is 1 if the folder is in use, or not there.
 not_started(Folder, Status, Until) ->
-    case Status =:= 1 andalso erlang:monotonic_time(millisecond) < Until of
-        true -> timer:sleep(?TRY_AGAIN), started(Folder, Until);
-        false ->
-            case dlog_program:why_not(Folder) of
-                "" -> {error, {status, Status}};
-                Words -> {error, Words}
-            end
+    case {dlog_program:why_not(Folder), erlang:monotonic_time(millisecond) < Until} of
+        {"", true} -> started(Folder, Until);
+        {_, true} when Status =:= 1 -> timer:sleep(?TRY_AGAIN), not_started(Folder, Status, Until);
+        {"", false} -> {error, {status, Status}};
+        {Words, _} -> {error, Words}
     end.
 
 %% Opens the logs that were open, for those who had a part in them.

@@ -3,6 +3,7 @@ from __future__ import annotations
 
 import os
 import select
+import shutil
 import subprocess
 import weakref
 from typing import List, Optional
@@ -15,6 +16,10 @@ WORDS_BYTES = 2048
 LAST_WORDS_SECONDS = 1.0
 
 
+# The program ignores what is meant to end its parent.
+SPARED = 'trap "" TERM INT HUP; exec "$0" "$@"'
+
+
 class Child:
     """A program in a session of its own, so that no signal to the group of its parent ends it.
 
@@ -23,12 +28,16 @@ class Child:
     """
 
     def __init__(self, words: List[str]) -> None:
+        program = shutil.which(words[0])
+        if program is None:
+            raise NotStarted(None, f"{words[0]}: there is no such program")
         theirs_in, self.input = os.pipe()
         self.output, theirs_out = os.pipe()
         self._errors, theirs_errors = os.pipe()
         self._said, self._passes_on = b"", False
         try:
-            self._process = subprocess.Popen(words, stdin=theirs_in, stdout=theirs_out,
+            self._process = subprocess.Popen(["/bin/sh", "-c", SPARED, program, *words[1:]],
+                                             stdin=theirs_in, stdout=theirs_out,
                                              stderr=theirs_errors, start_new_session=True)
         except OSError as error:
             self._close_all()

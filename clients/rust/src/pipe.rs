@@ -1,12 +1,17 @@
-//! Writing to a pipe within a limit of time.
+//! What std lacks of the system: writing to a pipe within a limit of time, and a child that signals spare.
 
 use std::io::{self, ErrorKind, Write};
 use std::os::fd::AsRawFd;
 use std::os::raw::{c_int, c_short, c_ulong};
-use std::process::ChildStdin;
+use std::os::unix::process::CommandExt;
+use std::process::{ChildStdin, Command};
 use std::time::{Duration, Instant};
 
 const POLL_OUT: c_short = 4;
+const SIG_HUP: c_int = 1;
+const SIG_INT: c_int = 2;
+const SIG_TERM: c_int = 15;
+const SIG_IGN: usize = 1;
 /// What a pipe that can be written to takes without a wait.
 const PIECE_BYTES: usize = 4096;
 
@@ -19,6 +24,24 @@ struct PollFd {
 
 extern "C" {
     fn poll(fds: *mut PollFd, count: c_ulong, milliseconds: c_int) -> c_int;
+    fn setsid() -> c_int;
+    fn signal(number: c_int, handler: usize) -> usize;
+}
+
+/// Has a program started in a session of its own, and ignore what is meant to end its parent.
+pub(crate) fn spare(command: &mut Command) -> &mut Command {
+    let become_spared = || {
+        // SAFETY: both may be called between a fork and an exec, and neither takes a pointer.
+        unsafe {
+            setsid();
+            for number in [SIG_HUP, SIG_INT, SIG_TERM] {
+                signal(number, SIG_IGN);
+            }
+        }
+        Ok(())
+    };
+    // SAFETY: what it does is safe between a fork and an exec.
+    unsafe { command.pre_exec(become_spared) }
 }
 
 /// Writes of some bytes what the pipe takes up to a deadline, and takes it from them.

@@ -1,10 +1,9 @@
 //! A server as a process: who waits for which answer, and how it ended.
 
 use crate::reading::Reader;
-use crate::{Answer, Ended, Error, Notice, Reply};
+use crate::{pipe, Answer, Ended, Error, Notice, Reply};
 use std::collections::{HashMap, VecDeque};
 use std::io::{self, BufReader, Read, Write};
-use std::os::unix::process::CommandExt;
 use std::process::{Child, ChildStderr, ChildStdout, Command, ExitStatus, Stdio};
 use std::sync::{Arc, Condvar, Mutex, MutexGuard, PoisonError};
 use std::thread::{self, JoinHandle, Thread};
@@ -38,8 +37,8 @@ struct Words {
     are_over: bool,
 }
 
-/// A server that runs, in a process group of its own, so that no signal to the group of its parent ends it. A thread hands
-/// each answer to the one that waits for it, and another one passes its words on.
+/// A server that runs, in a session of its own, so that no signal to the group of its parent ends it. A thread hands each answer
+/// to the one that waits for it, and another one passes its words on.
 pub(crate) struct Process {
     child: Mutex<Child>,
     state: Mutex<State>,
@@ -58,11 +57,10 @@ impl Process {
     pub(crate) fn start(
         mut command: Command,
     ) -> io::Result<(Arc<Process>, std::process::ChildStdin)> {
-        let mut child = command
+        let mut child = pipe::spare(&mut command)
             .stdin(Stdio::piped())
             .stdout(Stdio::piped())
             .stderr(Stdio::piped())
-            .process_group(0)
             .spawn()?;
         let (Some(input), Some(output), Some(errors)) =
             (child.stdin.take(), child.stdout.take(), child.stderr.take())
