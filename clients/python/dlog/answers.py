@@ -72,53 +72,54 @@ class Info(NamedTuple):
 class Reader:
     """What is left of a text from a place on."""
 
-    def __init__(self, text, at):
+    def __init__(self, text: bytes, at: int) -> None:
         self.text = text
         self.at = at
 
-    def take(self, count):
+    def take(self, count: int) -> bytes:
         part = self.text[self.at:self.at + count]
         if len(part) != count:
             raise Error("an answer is cut short")
         self.at += count
         return part
 
-    def number(self, form):
-        return struct.unpack(form, self.take(struct.calcsize(form)))[0]
+    def number(self, form: str) -> int:
+        return int(struct.unpack(form, self.take(struct.calcsize(form)))[0])
 
-    def u8(self):
+    def u8(self) -> int:
         return self.number(">B")
 
-    def u32(self):
+    def u32(self) -> int:
         return self.number(">I")
 
-    def u64(self):
+    def u64(self) -> int:
         return self.number(">Q")
 
-    def short(self):
+    def short(self) -> str:
         return self.take(self.u8()).decode("ascii")
 
-    def bytes(self):
+    def sized(self) -> bytes:
         return self.take(self.u32())
 
-    def items(self):
-        return [self.bytes() for _ in range(self.u32())]
+    def items(self) -> List[bytes]:
+        return [self.sized() for _ in range(self.u32())]
 
-    def option(self, part):
+    def option(self, part: Callable[[], Part]) -> Optional[Part]:
         return part() if self.u8() else None
 
-    def size(self):
+    def size(self) -> Size:
         kind = self.u8()
         if kind == 0:
             return "infinity"
         return self.u64() if kind == 1 else (self.u64(), self.u32())
 
-    def file(self):
+    def file(self) -> str:
         base, part = self.short(), self.u8()
         return base + (".log", ".idx")[part] if part < 2 else f"{base}.{self.u32()}"
 
-    def refusal(self, kind):
+    def refusal(self, kind: int) -> Refused:
         number = kind - 64
+        parts: Tuple[object, ...]
         if number in (1, 4):
             parts = (ARGUMENTS[self.u8()],)
         elif number == 5:
@@ -135,28 +136,29 @@ class Reader:
             parts = ()
         return Refused(number, parts)
 
-    def owner(self):
+    def owner(self) -> Tuple[int, bool]:
         return self.u32(), bool(self.u8())
 
-    def extent(self):
+    def extent(self) -> Dict[str, Union[int, bool]]:
         if self.u8() == 0:
             return {"full": bool(self.u8())}
         names = ("bytes", "items", "all_items", "file", "rolls_since_open", "rolls_since_info")
         values = struct.unpack(">QQQIQQ", self.take(44))
         return dict(zip(names, values))
 
-    def info(self):
+    def info(self) -> Info:
         log, base, kind, size = self.short(), self.short(), KINDS[self.u8()], self.size()
         mode = MODES[self.u8()]
         owners = [self.owner() for _ in range(self.u32())]
         users = self.u32()
         blocked = self.option(lambda: ("refuse", "queue")[self.u8()])
-        writing = (None, None, None, None)
-        if self.u8():
-            writing = (self.option(self.bytes), self.u64(), self.extent(), self.option(self.u32))
-        return Info(log, base, kind, size, mode, owners, users, blocked, *writing)
+        if not self.u8():
+            return Info(log, base, kind, size, mode, owners, users, blocked, None, None, None, None)
+        head, written, extent = self.option(self.sized), self.u64(), self.extent()
+        hold = self.option(self.u32)
+        return Info(log, base, kind, size, mode, owners, users, blocked, head, written, extent, hold)
 
-    def notice(self):
+    def notice(self) -> Notice:
         client, log, kind = self.u32(), self.short(), self.u8()
         if kind in (0, 1):
             return Notice(client, log, ("wrap", "truncated")[kind], self.u64())
@@ -167,7 +169,7 @@ class Reader:
             return Notice(client, log, ("read_only", "blocked")[kind - 4], self.items())
         return Notice(client, log, {2: "full", 6: "no_such_log"}[kind], None)
 
-    def answer(self, kind):
+    def answer(self, kind: int) -> object:
         """The value of an answer, or the exception that it stands for."""
         if kind >= 64:
             return self.refusal(kind)

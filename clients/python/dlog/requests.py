@@ -3,7 +3,7 @@ from __future__ import annotations
 
 import re
 import struct
-from typing import Callable, Optional, Sequence, Tuple, TypeVar, Union
+from typing import Any, Callable, Optional, Sequence, Tuple, Union
 
 from .errors import Invalid
 
@@ -17,7 +17,6 @@ MODES = ("read_write", "read_only")
 REPAIRS = ("yes", "no", "truncate")
 LINKS = ("owner", "anonymous")
 
-Part = TypeVar("Part")
 Size = Union[str, int, Tuple[int, int]]
 
 
@@ -50,7 +49,7 @@ def items(values: Sequence[bytes]) -> bytes:
     return struct.pack(">I", len(values)) + b"".join(map(item, values))
 
 
-def option(encode: Callable[[Part], bytes], value: Optional[Part]) -> bytes:
+def option(encode: Callable[[Any], bytes], value: object) -> bytes:
     return b"\0" if value is None else b"\1" + encode(value)
 
 
