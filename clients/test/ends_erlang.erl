@@ -165,8 +165,9 @@ limit(File) ->
     {error, timeout} = dlog:blog_terms(a, lists:duplicate(10, binary:copy(<<"x">>, 1000000))),
     {error, timeout} = dlog:log(a, later),
     ok = signal("CONT", Program),
-    until(fun() -> dlog:log(a, last) =:= ok end),
-    13 =< length(bytes(a, dlog:bchunk(a, start), [])) orelse error(lost),
+    {ok, a} = dlog:open(lists:keyreplace(timeout, 1, Limited, {timeout, ?PATIENCE})),
+    ok = dlog:log(a, last),
+    13 = length(bytes(a, dlog:bchunk(a, start), [])),
     ok = signal("STOP", Program),
     {error, {not_written, [_]}} = dlog:stop(?SHORT),
     ok = signal("KILL", Program).
@@ -225,7 +226,7 @@ loss(File) ->
     {error, {not_written, [_]}} = dlog:stop().
 
 items(_, eof, Read) -> lists:append(lists:reverse(Read));
-items(Log, {Next, Items}, Read) -> items(Log, dlog:chunk(Log, Next), [Items | Read]).
+items(Log, {Next, Items}, Read) when is_list(Items) -> items(Log, dlog:chunk(Log, Next), [Items | Read]).
 
 bytes(_, eof, Read) -> lists:append(lists:reverse(Read));
-bytes(Log, {Next, Items}, Read) -> bytes(Log, dlog:bchunk(Log, Next), [Items | Read]).
+bytes(Log, {Next, Items}, Read) when is_list(Items) -> bytes(Log, dlog:bchunk(Log, Next), [Items | Read]).

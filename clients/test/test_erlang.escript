@@ -124,4 +124,4 @@ told() ->
     receive {disk_log, _, _, What} -> What after 5000 -> none end.
 
 items(_, eof, Read) -> lists:append(lists:reverse(Read));
-items(Log, {Next, Items}, Read) -> items(Log, dlog:chunk(Log, Next), [Items | Read]).
+items(Log, {Next, Items}, Read) when is_list(Items) -> items(Log, dlog:chunk(Log, Next), [Items | Read]).

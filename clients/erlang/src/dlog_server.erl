@@ -210,9 +210,9 @@ opened(Said, Log, #{wire := Wire} = Given) ->
 is_open(Said) ->
     Said =:= opened orelse (is_tuple(Said) andalso element(1, Said) =:= repaired).
 
-joined(#{users := Users} = Entry, #{linkto := none}) -> Entry#{users := Users + 1};
-joined(#{owners := Owners} = Entry, #{linkto := Pid, notify := Notify}) ->
-    Entry#{owners := lists:keystore(Pid, 1, Owners, {Pid, Notify})}.
+joined(#{users := Users} = Entry, #{linkto := none, timeout := Timeout}) -> Entry#{users := Users + 1, timeout := Timeout};
+joined(#{owners := Owners} = Entry, #{linkto := Pid, notify := Notify, timeout := Timeout}) ->
+    Entry#{owners := lists:keystore(Pid, 1, Owners, {Pid, Notify}), timeout := Timeout}.
 
 %% What is noted of the answer to a call.
 note(?CLOSE, Wire, Pid, #state{names = Names}) ->
