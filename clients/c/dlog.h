@@ -131,7 +131,7 @@ void dlog_forget(struct dlog *dlog);
 void dlog_set_timeout(struct dlog *dlog, int milliseconds);
 
 /* What the last fault was, and of a server that has ended its last words on standard error. They are
- * passed on to standard error too, with the next call. */
+ * passed on to standard error too, at its end at the latest. */
 const char *dlog_error(const struct dlog *dlog);
 
 /* Calls that wait for their answer. Notices that come meanwhile are dropped. */

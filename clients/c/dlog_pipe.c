@@ -65,7 +65,7 @@ static int time_left(const struct dlog *dlog)
 
 int dlog_open_pipe(int ends[2])
 {
-#ifdef O_CLOEXEC
+#ifndef __APPLE__
     if (pipe2(ends, O_CLOEXEC) != 0)
         return -1;
 #else
@@ -181,6 +181,8 @@ int dlog_wait(struct dlog *dlog, int writes)
 
     if (dlog->has_ended)
         return dlog_gone(dlog);
+    if (!writes && dlog->deadline == 0)
+        return take_in(dlog);
     ready = poll(pipes, 3, time_left(dlog));
     if (ready < 0 && errno != EINTR)
         return dlog_fail(dlog, DLOG_EXHAUSTED, "%s", strerror(errno));

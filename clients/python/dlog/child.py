@@ -49,18 +49,20 @@ class Child:
         self.pid = self._process.pid
         self.is_ours = True
         os.set_blocking(self.input, False)
+        self._pipes = select.poll()
+        self._pipes.register(self.output, select.POLLIN)
+        self._pipes.register(self._errors, select.POLLIN)
 
     def is_readable(self, seconds: Optional[float]) -> Optional[bool]:
         """Waits for output, or its end: true if there is some, false if standard error alone had
         some, and None if the time is over."""
-        pipes = select.poll()
-        pipes.register(self.output, select.POLLIN)
-        if self._errors >= 0:
-            pipes.register(self._errors, select.POLLIN)
-        ready = [pipe for pipe, _ in pipes.poll(None if seconds is None else 1000 * seconds)]
-        if self._errors in ready:
-            self._hear()
-        return self.output in ready if ready else None
+        ready = self._pipes.poll(None if seconds is None else 1000 * seconds)
+        if len(ready) == 1 and ready[0][0] == self.output:
+            return True
+        for pipe, _ in ready:
+            if pipe == self._errors:
+                self._hear()
+        return any(pipe == self.output for pipe, _ in ready) if ready else None
 
     def has_ended(self) -> bool:
         return self._process.poll() is not None
@@ -92,6 +94,7 @@ class Child:
     def _hear(self) -> None:
         part = os.read(self._errors, READ_BYTES)
         if not part:
+            self._pipes.unregister(self._errors)
             self._errors = _closed(self._errors)
         elif self._passes_on:
             _say(part)

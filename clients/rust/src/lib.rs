@@ -21,6 +21,7 @@ mod items;
 mod parts;
 mod pipe;
 mod process;
+mod program;
 mod reading;
 mod server;
 

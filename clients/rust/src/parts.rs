@@ -4,6 +4,8 @@ use crate::{Error, Log, Place};
 
 /// The most bytes of an item.
 pub const ITEM_LIMIT: usize = 1_048_576;
+/// What most requests are shorter than.
+const USUAL_BYTES: usize = 256;
 /// The most letters of a name.
 pub const NAME_LIMIT: usize = 64;
 
@@ -77,9 +79,10 @@ impl Parts {
     /// Begins a request, whose length is set as it ends.
     pub(crate) fn request(tag: u32, number: u8) -> Parts {
         let mut parts = Parts {
-            bytes: vec![0; 4],
+            bytes: Vec::with_capacity(USUAL_BYTES),
             fault: None,
         };
+        parts.u32(0);
         parts.u32(tag);
         parts.byte(number);
         parts

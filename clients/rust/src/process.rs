@@ -1,118 +1,246 @@
 //! A server as a process: who waits for which answer, and how it ended.
 
+use crate::program::{locked, Program};
 use crate::reading::Reader;
 use crate::{pipe, Answer, Ended, Error, Notice, Reply};
 use std::collections::{HashMap, VecDeque};
-use std::io::{self, BufReader, Read, Write};
-use std::process::{Child, ChildStderr, ChildStdout, Command, ExitStatus, Stdio};
-use std::sync::{Arc, Condvar, Mutex, MutexGuard, PoisonError};
-use std::thread::{self, JoinHandle, Thread};
+use std::hash::{BuildHasherDefault, Hasher};
+use std::io::{self, Read};
+use std::os::fd::{AsRawFd, RawFd};
+use std::process::{ChildStdin, ChildStdout, Command};
+use std::sync::{Mutex, MutexGuard, TryLockError};
+use std::thread::{self, Thread};
 use std::time::{Duration, Instant};
 
 /// How many bytes are read at a time.
 const READ_BYTES: usize = 65_536;
-/// How many of the last words are kept.
-const WORDS_BYTES: usize = 2048;
 const LOOK_AGAIN: Duration = Duration::from_millis(1);
+/// How often a thread that does not read looks whether it has to, so that the server goes on.
+const LOOK: Duration = Duration::from_millis(50);
 
-/// A call that was sent: its answer, once it is there, and the thread that waits for it.
+/// Tags are numbers in order, which are spread by a multiplication.
 #[derive(Default)]
-struct Call {
-    answer: Option<Result<Reply, Error>>,
-    waits: Option<Thread>,
+struct TagHasher(u64);
+
+impl Hasher for TagHasher {
+    fn write_u32(&mut self, tag: u32) {
+        self.0 = u64::from(tag).wrapping_mul(0x9e37_79b9_7f4a_7c15);
+    }
+
+    fn write(&mut self, bytes: &[u8]) {
+        bytes.iter().for_each(|byte| self.write_u32((*byte).into()));
+    }
+
+    fn finish(&self) -> u64 {
+        self.0
+    }
 }
 
 #[derive(Default)]
 struct State {
-    calls: HashMap<u32, Call>,
+    /// The calls that were sent, each with its answer once it is there.
+    calls: HashMap<u32, Option<Result<Reply, Error>>, BuildHasherDefault<TagHasher>>,
+    /// The threads that wait while another one reads, by their calls.
+    waiters: Vec<(u32, Thread)>,
     notices: VecDeque<Notice>,
     ended: Option<Ended>,
 }
 
-/// What the server says on standard error.
-#[derive(Default)]
-struct Words {
-    last: Vec<u8>,
-    pass_on: bool,
-    are_over: bool,
+/// Where answers are read, and what was read of a frame that is not whole.
+struct Output {
+    pipe: ChildStdout,
+    bytes: Vec<u8>,
+    /// How many of the bytes were read.
+    have: usize,
 }
 
-/// A server that runs, in a session of its own, so that no signal to the group of its parent ends it. A thread hands each answer
-/// to the one that waits for it, and another one passes its words on.
+/// A server that runs, in a session of its own, so that no signal to the group of its parent ends it. Of the threads that wait
+/// for answers one reads, and hands the others theirs.
 pub(crate) struct Process {
-    child: Mutex<Child>,
+    pub(crate) program: Program,
+    output: Mutex<Output>,
+    output_fd: RawFd,
     state: Mutex<State>,
-    has_ended: Condvar,
-    words: Mutex<Words>,
-    no_more_words: Condvar,
-}
-
-/// The value behind a lock. A thread that panicked in between has left nothing half done.
-pub(crate) fn locked<T>(mutex: &Mutex<T>) -> MutexGuard<'_, T> {
-    mutex.lock().unwrap_or_else(PoisonError::into_inner)
 }
 
 impl Process {
     /// Starts a program, and returns it and its input.
-    pub(crate) fn start(
-        mut command: Command,
-    ) -> io::Result<(Arc<Process>, std::process::ChildStdin)> {
-        let mut child = pipe::spare(&mut command)
-            .stdin(Stdio::piped())
-            .stdout(Stdio::piped())
-            .stderr(Stdio::piped())
-            .spawn()?;
-        let (Some(input), Some(output), Some(errors)) =
-            (child.stdin.take(), child.stdout.take(), child.stderr.take())
-        else {
-            return Err(io::ErrorKind::BrokenPipe.into());
-        };
-        let process = Arc::new(Process {
-            child: Mutex::new(child),
+    pub(crate) fn start(command: Command) -> io::Result<(Process, ChildStdin)> {
+        let (program, input, output) = Program::start(command)?;
+        let process = Process {
+            program,
+            output_fd: output.as_raw_fd(),
+            output: Mutex::new(Output {
+                pipe: output,
+                bytes: vec![0; READ_BYTES],
+                have: 0,
+            }),
             state: Mutex::default(),
-            has_ended: Condvar::new(),
-            words: Mutex::default(),
-            no_more_words: Condvar::new(),
-        });
-        let (reads, listens) = (Arc::clone(&process), Arc::clone(&process));
-        begin("dlog errors", move || listens.listen(errors))?;
-        begin("dlog answers", move || reads.read(output))?;
+        };
         Ok((process, input))
     }
 
     /// Notes that the answer of a call is awaited, or has it at once.
     pub(crate) fn await_answer(&self, tag: u32, answer: Option<Result<Reply, Error>>) {
-        let call = Call {
-            answer,
-            waits: None,
-        };
-        locked(&self.state).calls.insert(tag, call);
+        locked(&self.state).calls.insert(tag, answer);
     }
 
     /// Waits for the answer of a call.
     pub(crate) fn answer(&self, tag: u32, deadline: Option<Instant>) -> Result<Reply, Error> {
         loop {
-            let mut state = locked(&self.state);
-            let ended = state.ended.clone();
-            let call = state.calls.get_mut(&tag).ok_or(Error::NoCall(tag))?;
-            let late = deadline.is_some_and(|deadline| deadline <= Instant::now());
-            if call.answer.is_some() || ended.is_some() || late {
-                let answer = state.calls.remove(&tag).and_then(|call| call.answer);
-                return match (answer, ended) {
-                    (Some(answer), _) => answer?.into_result(),
-                    (None, Some(ended)) => Err(Error::Gone(ended)),
-                    (None, None) => Err(Error::TimedOut),
-                };
+            if let Some(answer) = self.take_answer(tag, deadline) {
+                return answer;
             }
-            call.waits = Some(thread::current());
-            drop(state);
-            match deadline {
-                None => thread::park(),
-                Some(deadline) => {
-                    thread::park_timeout(deadline.saturating_duration_since(Instant::now()))
+            if self.read_for(tag, deadline) {
+                continue;
+            }
+            locked(&self.state).waiters.push((tag, thread::current()));
+            if !self.read_for(tag, deadline) && !self.is_settled(tag) {
+                match deadline {
+                    None => thread::park(),
+                    Some(_) => thread::park_timeout(pipe::left(deadline)),
                 }
             }
+            locked(&self.state).waiters.retain(|(its, _)| *its != tag);
         }
+    }
+
+    /// The outcome of a call, if it is there or the time is over.
+    fn take_answer(&self, tag: u32, deadline: Option<Instant>) -> Option<Result<Reply, Error>> {
+        let mut state = locked(&self.state);
+        let is_late = || deadline.is_some_and(|deadline| deadline <= Instant::now());
+        match state.calls.get(&tag) {
+            None => return Some(Err(Error::NoCall(tag))),
+            Some(None) if state.ended.is_none() && !is_late() => return None,
+            Some(_) => {}
+        }
+        let answer = state.calls.remove(&tag).flatten();
+        let ended = state.ended.clone();
+        drop(state);
+        Some(match (answer, ended) {
+            (Some(answer), _) => answer.and_then(Reply::into_result),
+            (None, Some(ended)) => Err(Error::Gone(ended)),
+            (None, None) => {
+                self.wake_one();
+                Err(Error::TimedOut)
+            }
+        })
+    }
+
+    fn is_settled(&self, tag: u32) -> bool {
+        let state = locked(&self.state);
+        state.ended.is_some() || !matches!(state.calls.get(&tag), Some(None))
+    }
+
+    /// Reads until the answer of a call is there, if no other thread reads, and then gives another one its turn.
+    fn read_for(&self, tag: u32, deadline: Option<Instant>) -> bool {
+        let Some(mut output) = self.try_read() else {
+            return false;
+        };
+        while !self.is_settled(tag) && self.read_some(&mut output, deadline) {}
+        drop(output);
+        self.wake_one();
+        true
+    }
+
+    fn try_read(&self) -> Option<MutexGuard<'_, Output>> {
+        match self.output.try_lock() {
+            Ok(output) => Some(output),
+            Err(TryLockError::Poisoned(poisoned)) => Some(poisoned.into_inner()),
+            Err(TryLockError::WouldBlock) => None,
+        }
+    }
+
+    fn wake_one(&self) {
+        if let Some((_, thread)) = locked(&self.state).waiters.first() {
+            thread.unpark();
+        }
+    }
+
+    /// Reads what there is, once there is something. Reports whether it was in time.
+    fn read_some(&self, output: &mut Output, deadline: Option<Instant>) -> bool {
+        if deadline.is_some() {
+            let mut reads = [self.reads()];
+            if !pipe::wait(&mut reads, pipe::left(deadline)).unwrap_or(true) {
+                return false;
+            }
+        }
+        if output.have == output.bytes.len() {
+            output.bytes.resize(2 * output.have, 0);
+        }
+        match output.pipe.read(&mut output.bytes[output.have..]) {
+            Ok(count @ 1..) => {
+                output.have += count;
+                self.take_frames(output);
+            }
+            Err(error) if error.kind() == io::ErrorKind::Interrupted => {}
+            Ok(_) | Err(_) => self.end(),
+        }
+        true
+    }
+
+    fn reads(&self) -> pipe::Pipe {
+        pipe::Pipe {
+            fd: self.output_fd,
+            events: pipe::READS,
+            came: 0,
+        }
+    }
+
+    fn take_frames(&self, output: &mut Output) {
+        let mut state = locked(&self.state);
+        let mut unread = &output.bytes[..output.have];
+        while let Some((length, rest)) = unread.split_first_chunk() {
+            let length = u32::from_be_bytes(*length) as usize;
+            let Some(text) = rest.get(..length) else {
+                break;
+            };
+            state.hand_over(text);
+            unread = &rest[length..];
+        }
+        let left = unread.len();
+        output.bytes.copy_within(output.have - left..output.have, 0);
+        output.have = left;
+    }
+
+    /// Notes how the server, which has ended its output, has ended.
+    fn end(&self) {
+        let ended = self.program.end();
+        let mut state = locked(&self.state);
+        state.ended.get_or_insert(ended);
+        state.waiters.iter().for_each(|(_, thread)| thread.unpark());
+    }
+
+    /// Waits until the input, which was full, can be written to, and reads meanwhile, so that the server goes on.
+    pub(crate) fn make_room(
+        &self,
+        input: &ChildStdin,
+        deadline: Option<Instant>,
+    ) -> io::Result<()> {
+        let writes = pipe::Pipe {
+            fd: input.as_raw_fd(),
+            events: pipe::WRITES,
+            came: 0,
+        };
+        let mut pipes = [writes, self.reads()];
+        let mut is_ready = false;
+        while !is_ready {
+            if pipe::left(deadline).is_zero() {
+                return Err(io::ErrorKind::TimedOut.into());
+            }
+            let output = self.try_read();
+            let count = 1 + usize::from(output.is_some());
+            pipe::wait(&mut pipes[..count], LOOK.min(pipe::left(deadline)))?;
+            is_ready = pipes[0].came != 0;
+            if let Some(mut output) = output {
+                if !is_ready && pipes[1].came != 0 {
+                    self.read_some(&mut output, deadline);
+                }
+                drop(output);
+                self.wake_one();
+            }
+        }
+        Ok(())
     }
 
     pub(crate) fn notices(&self) -> Vec<Notice> {
@@ -130,124 +258,40 @@ impl Process {
 
     /// Waits for the end of the server.
     pub(crate) fn wait(&self, deadline: Option<Instant>) -> Result<Ended, Error> {
-        let mut state = locked(&self.state);
         loop {
-            if let Some(ended) = &state.ended {
+            if let Some(ended) = &locked(&self.state).ended {
                 return Ok(ended.clone());
             }
-            let left = deadline.map_or(Duration::MAX, |it| {
-                it.saturating_duration_since(Instant::now())
-            });
-            if left.is_zero() {
+            if pipe::left(deadline).is_zero() {
                 return Err(Error::TimedOut);
             }
-            let waited = self.has_ended.wait_timeout(state, left);
-            state = waited.unwrap_or_else(PoisonError::into_inner).0;
-        }
-    }
-
-    pub(crate) fn id(&self) -> u32 {
-        locked(&self.child).id()
-    }
-
-    pub(crate) fn kill(&self) -> io::Result<()> {
-        locked(&self.child).kill()
-    }
-
-    /// Passes on what the server has said on standard error, and says from now on.
-    pub(crate) fn pass_on(&self) {
-        let mut words = locked(&self.words);
-        words.pass_on = true;
-        let _ = io::stderr().write_all(&words.last);
-    }
-
-    fn read(&self, output: ChildStdout) {
-        let mut output = BufReader::with_capacity(READ_BYTES, output);
-        let mut text = Vec::new();
-        while read_text(&mut output, &mut text).is_ok() {
-            self.hand_over(&text);
-        }
-        drop(output);
-        let status = self.status();
-        let mut words = locked(&self.words);
-        while !words.are_over {
-            let waited = self
-                .no_more_words
-                .wait_timeout(words, Duration::from_secs(1));
-            let (now, limit) = waited.unwrap_or_else(PoisonError::into_inner);
-            words = now;
-            words.are_over |= limit.timed_out();
-        }
-        let ended = Ended {
-            status,
-            words: String::from_utf8_lossy(&words.last).trim().to_owned(),
-            may_be_done: true,
-        };
-        drop(words);
-        let mut state = locked(&self.state);
-        state.ended = Some(ended);
-        state.calls.values_mut().for_each(wake);
-        self.has_ended.notify_all();
-    }
-
-    /// The status of the server, which has ended its output.
-    fn status(&self) -> Option<ExitStatus> {
-        loop {
-            match locked(&self.child).try_wait() {
-                Ok(Some(status)) => return Some(status),
-                Ok(None) => {}
-                Err(_) => return None,
+            match self.try_read() {
+                Some(mut output) => {
+                    self.read_some(&mut output, deadline);
+                    drop(output);
+                    self.wake_one();
+                }
+                None => thread::sleep(LOOK_AGAIN),
             }
-            thread::sleep(LOOK_AGAIN);
         }
     }
+}
 
-    fn hand_over(&self, text: &[u8]) {
-        let answer = match Reader::new(text).answer() {
-            Some(Answer::Notice(notice)) => return locked(&self.state).notices.push_back(notice),
-            Some(Answer::Reply(tag, reply)) => Some((tag, Ok(reply))),
-            None => text
-                .first_chunk()
-                .map(|tag| (u32::from_be_bytes(*tag), Err(Error::Form))),
+impl State {
+    fn hand_over(&mut self, text: &[u8]) {
+        let (tag, answer) = match Reader::new(text).answer() {
+            Some(Answer::Notice(notice)) => return self.notices.push_back(notice),
+            Some(Answer::Reply(tag, reply)) => (tag, Ok(reply)),
+            None => match text.first_chunk() {
+                Some(tag) => (u32::from_be_bytes(*tag), Err(Error::Form)),
+                None => return,
+            },
         };
-        let mut state = locked(&self.state);
-        let Some((tag, answer)) = answer else { return };
-        if let Some(call) = state.calls.get_mut(&tag) {
-            call.answer = Some(answer);
-            wake(call);
+        if let Some(call) = self.calls.get_mut(&tag) {
+            *call = Some(answer);
+        }
+        if let Some((_, thread)) = self.waiters.iter().find(|(its, _)| *its == tag) {
+            thread.unpark();
         }
     }
-
-    fn listen(&self, mut errors: ChildStderr) {
-        let mut part = [0; 1024];
-        while let Ok(count @ 1..) = errors.read(&mut part) {
-            let mut words = locked(&self.words);
-            if words.pass_on {
-                let _ = io::stderr().write_all(&part[..count]);
-            }
-            words.last.extend(&part[..count]);
-            let over = words.last.len().saturating_sub(WORDS_BYTES);
-            words.last.drain(..over);
-        }
-        locked(&self.words).are_over = true;
-        self.no_more_words.notify_all();
-    }
-}
-
-fn begin(name: &str, run: impl FnOnce() + Send + 'static) -> io::Result<JoinHandle<()>> {
-    thread::Builder::new().name(name.to_owned()).spawn(run)
-}
-
-fn wake(call: &mut Call) {
-    if let Some(thread) = call.waits.take() {
-        thread.unpark();
-    }
-}
-
-/// Reads the text of the next frame.
-fn read_text(output: &mut impl Read, text: &mut Vec<u8>) -> io::Result<()> {
-    let mut length = [0; 4];
-    output.read_exact(&mut length)?;
-    text.resize(u32::from_be_bytes(length) as usize, 0);
-    output.read_exact(text)
 }

@@ -1,12 +1,13 @@
 //! A server: how it is started, sent requests and stopped.
 
 use crate::parts::Parts;
-use crate::process::{locked, Process};
-use crate::{pipe, Ended, Error, Log, Reply};
-use std::io::ErrorKind;
+use crate::process::Process;
+use crate::program::locked;
+use crate::{Ended, Error, Log, Reply};
+use std::io::{self, ErrorKind, Write};
 use std::path::Path;
 use std::process::{ChildStdin, Command};
-use std::sync::{Arc, Mutex};
+use std::sync::Mutex;
 use std::thread;
 use std::time::{Duration, Instant};
 
@@ -47,7 +48,7 @@ struct Sending {
 /// Threads may share it: their calls are under way together. One that is dropped has its input ended, and is not waited for;
 /// `stop` reports how it ended.
 pub struct Server {
-    pub(crate) process: Arc<Process>,
+    pub(crate) process: Process,
     sending: Mutex<Sending>,
     timeout: Mutex<Option<Duration>>,
     frame_limit: u32,
@@ -102,7 +103,7 @@ impl Server {
             return Err(Error::Form);
         };
         server.frame_limit = frame_limit;
-        server.process.pass_on();
+        server.process.program.pass_on();
         Ok(server)
     }
 
@@ -120,13 +121,13 @@ impl Server {
 
     /// Ends the server as a stop of the machine would, as where it does not answer, and waits for its end.
     pub fn kill(&self) -> Result<Ended, Error> {
-        self.process.kill()?;
+        self.process.program.kill()?;
         self.process.wait(None)
     }
 
     /// The number of the server's process.
     pub fn id(&self) -> u32 {
-        self.process.id()
+        self.process.program.id()
     }
 
     /// How long each call may take from now on.
@@ -157,10 +158,33 @@ impl Server {
         let Some(input) = sending.input.as_mut() else {
             return Err(self.gone());
         };
-        pipe::write(input, &mut sending.frames, deadline).map_err(|error| match error.kind() {
+        let mut at = 0;
+        let written = self.write(input, &sending.frames, &mut at, deadline);
+        sending.frames.drain(..at);
+        written.map_err(|error| match error.kind() {
             ErrorKind::TimedOut => Error::TimedOut,
             _ => self.gone(),
         })
+    }
+
+    fn write(
+        &self,
+        input: &mut ChildStdin,
+        frames: &[u8],
+        at: &mut usize,
+        deadline: Option<Instant>,
+    ) -> io::Result<()> {
+        while *at < frames.len() {
+            match input.write(&frames[*at..]) {
+                Ok(count) => *at += count,
+                Err(error) if error.kind() == ErrorKind::Interrupted => {}
+                Err(error) if error.kind() == ErrorKind::WouldBlock => {
+                    self.process.make_room(input, deadline)?;
+                }
+                Err(error) => return Err(error),
+            }
+        }
+        Ok(())
     }
 
     /// Waits for the answer of a call that was sent.
