@@ -242,7 +242,7 @@ static void *write_shared(void *number)
 
 static void threads_share(const char *parent)
 {
-    static char names[THREADS][8];
+    static char names[THREADS][16];
     pthread_t threads[THREADS];
     char folder[4096];
 
