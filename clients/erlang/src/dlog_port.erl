@@ -12,7 +12,6 @@
 -define(LEAST_LIFE, 1000).
 %% What a frame has beside the parts of a call and the name of its log.
 -define(FRONT, 10).
--define(FRAME_LIMIT, 16777216).
 
 %% An open log, as the table dlog_logs has it beside its name and how it is called.
 -type log() :: #{folder := file:filename(), file := file:filename(), type := halt | wrap,
@@ -35,8 +34,8 @@ all() ->
 %% Notes what is known of a log now, or, if nobody has a part in it, that it is closed.
 -spec keep(term(), log()) -> true.
 keep(Log, #{owners := [], users := 0}) -> ets:delete(dlog_logs, Log);
-keep(Log, #{server := Server, wire := Wire, timeout := Timeout} = Known) ->
-    ets:insert(dlog_logs, {Log, {Server, Wire, Timeout}, Known}).
+keep(Log, #{server := Server, wire := Wire, timeout := Timeout, limit := Limit} = Known) ->
+    ets:insert(dlog_logs, {Log, {Server, Wire, Timeout, Limit}, Known}).
 
 %% Opens a log of a folder: its options, and the parts that they are in a request.
 -spec open(term(), map(), iodata()) -> term() | failure().
@@ -48,8 +47,8 @@ open(Log, #{folder := Folder, timeout := Timeout} = Given, Parts) ->
 -spec call(term(), byte(), iodata()) -> term() | failure().
 call(Log, Number, Parts) ->
     try ets:lookup_element(dlog_logs, Log, 2) of
-        {Server, Wire, Timeout} ->
-            case too_long(Wire, Parts) of
+        {Server, Wire, Timeout, Limit} ->
+            case too_long(Wire, Parts, Limit) of
                 false -> ask(Server, {call, Wire, Number, Parts}, Timeout);
                 Long -> Long
             end
@@ -61,8 +60,8 @@ call(Log, Number, Parts) ->
 -spec send(term(), byte(), iodata()) -> ok | term() | failure().
 send(Log, Number, Parts) ->
     try ets:lookup_element(dlog_logs, Log, 2) of
-        {Server, Wire, _} ->
-            case too_long(Wire, Parts) of
+        {Server, Wire, _, Limit} ->
+            case too_long(Wire, Parts, Limit) of
                 false -> gen_server:cast(Server, {send, self(), Wire, Number, Parts});
                 Long -> Long
             end
@@ -78,9 +77,9 @@ resized(Log, Size) ->
         error -> ok
     end.
 
-too_long(Wire, Parts) ->
+too_long(Wire, Parts, Limit) ->
     case ?FRONT + byte_size(Wire) + iolist_size(Parts) of
-        Bytes when Bytes > ?FRAME_LIMIT -> {too_long, Bytes, ?FRAME_LIMIT};
+        Bytes when Bytes > Limit -> {too_long, Bytes, Limit};
         _ -> false
     end.
 

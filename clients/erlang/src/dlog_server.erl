@@ -20,6 +20,7 @@
 
 -record(state, {folder :: file:filename(),
                 port = none :: port() | none,
+                limit = 0 :: non_neg_integer(),
                 unread = <<>> :: binary(),
                 unsent = [] :: iodata(),
                 waiting = #{} :: #{pos_integer() => {gen_server:from() | none, fun((term()) -> change())}},
@@ -48,7 +49,7 @@ init({Folder, Logs}) ->
 %% Nothing is taken in hand before the server has said its hello, and the logs are open that were.
 handle_continue({start, Logs}, #state{folder = Folder} = State) ->
     case started(Folder, erlang:monotonic_time(millisecond) + dlog_program:setting(wait)) of
-        {ok, Port, Unread} -> sent(open_again(Logs, State#state{port = Port, unread = Unread}));
+        {ok, Port, Limit, Unread} -> sent(open_again(Logs, State#state{port = Port, limit = Limit, unread = Unread}));
         {error, Why} -> {stop, {shutdown, {not_started, Why}}, State}
     end.
 
@@ -65,7 +66,7 @@ started(Folder, Until) ->
 
 greeted(Port, Read) ->
     case dlog_frame:split(Read) of
-        {[Hello], Rest} -> {1, {hello, _, _, _}} = dlog_frame:answer(Hello), {ok, Port, Rest};
+        {[Hello], Rest} -> {1, {hello, _, Limit, _}} = dlog_frame:answer(Hello), {ok, Port, Limit, Rest};
         {[], _} ->
             receive
                 {Port, {data, More}} -> greeted(Port, <<Read/binary, More/binary>>);
@@ -107,11 +108,11 @@ opened_again(Said, Wire, Log, {Owner, Notify}) ->
 opened_again(_, _, _, none) ->
     none.
 
-handle_call({open, Log, #{linkto := To} = Given, Parts}, {Caller, _} = From, #state{names = Names} = State) ->
+handle_call({open, Log, #{linkto := To} = Given, Parts}, {Caller, _} = From, #state{names = Names, limit = Limit} = State) ->
     {Client, Known} = client_of(case To of none -> Caller; _ -> To end, State),
     Wire = dlog_options:wire_name(Log),
     Text = [<<Client:32>>, dlog_frame:text(Wire), Parts],
-    Note = fun(Said) -> opened(Said, Log, Given#{server => self(), wire => Wire}) end,
+    Note = fun(Said) -> opened(Said, Log, Given#{server => self(), wire => Wire, limit => Limit}) end,
     sent(request(?OPEN, Text, {From, Note}, Known#state{names = Names#{Wire => Log}}));
 handle_call({call, Wire, Number, Parts}, {Pid, _} = From, State) ->
     {Client, Known} = client_of(Pid, State),
