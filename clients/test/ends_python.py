@@ -193,6 +193,7 @@ def a_server_that_has_ended_starts_again(program, folder):
         halt.log(b"kept")
         halt.sync()
         assert server.restart() == []
+        os.kill(server.pid, signal.SIGSTOP)
         sent = halt.send_sync()
         server.kill()
         assert raised(dlog.Gone, server.answer, sent).may_be_done
