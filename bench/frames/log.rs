@@ -7,11 +7,11 @@ use std::time::Instant;
 const AHEAD: usize = 64;
 
 fn timed(
-    server: &mut Server,
+    server: &Server,
     log: &Log,
     name: &str,
     count: usize,
-    write: impl FnOnce(&mut Server) -> Result<(), Error>,
+    write: impl FnOnce(&Server) -> Result<(), Error>,
 ) -> Result<(), Error> {
     server.open(log, &Options::default())?;
     let start = Instant::now();
@@ -34,22 +34,15 @@ fn main() -> Result<(), Error> {
             item
         })
         .collect();
-    let mut server = Server::start(&words[1], &words[2])?;
+    let server = Server::start(&words[1], &words[2])?;
     let (one, ahead) = (Log::new(1, "one"), Log::new(1, "ahead"));
-    timed(
-        &mut server,
-        &one,
-        "rust_one_at_a_time",
-        count / 20,
-        |server| {
-            items[..count / 20]
-                .iter()
-                .try_for_each(|item| server.log(&one, &[item]).map(drop))
-        },
-    )?;
-    timed(&mut server, &ahead, "rust_64_under_way", count, |server| {
+    timed(&server, &one, "rust_one_at_a_time", count / 20, |server| {
+        items[..count / 20]
+            .iter()
+            .try_for_each(|item| server.log(&one, &[item]).map(drop))
+    })?;
+    timed(&server, &ahead, "rust_64_under_way", count, |server| {
         server.log_many(&ahead, &items, AHEAD)
     })?;
-    server.stop()?;
-    Ok(())
+    server.stop()
 }

@@ -1,9 +1,14 @@
 /* Logs of a dlog server, which is started as a program and answers frames (docs/PROTOCOL.md).
  *
- * A call writes a request and waits for its answer. `dlog_send_log` writes one and returns, so that
- * many calls can be under way; `dlog_receive` takes the next answer or notice. All functions that
- * return an int return 0 if all went well, and -1 if the server is gone, memory ran out or an answer
- * is of no form. What the server says stands in the answer: a kind from 64 on is a refusal.
+ * A call writes a request and waits for its answer. `dlog_send_log` and the like write one and
+ * return, so that many calls can be under way; `dlog_answer` and `dlog_receive` take their answers.
+ * A function that returns an int returns 0 if all went well, and else a fault below zero, for which
+ * `dlog_error` has the words. What the server says stands in the answer: a kind from 64 on is a
+ * refusal.
+ *
+ * Threads: one thread at a time may use a `struct dlog`. Calls on different ones may be made side by
+ * side, `dlog_start` too. A folder has one server, so threads that share a folder share a lock round
+ * the calls; the one that has it may send for several.
  */
 #ifndef DLOG_H
 #define DLOG_H
@@ -11,6 +16,14 @@
 #include <stddef.h>
 #include <stdint.h>
 #include <sys/types.h>
+
+enum dlog_fault {
+    DLOG_GONE = -1,      /* the server has ended, or did not start. A call that was sent may be done */
+    DLOG_TIMED_OUT = -2, /* the server did not answer in time. The call may yet be done */
+    DLOG_INVALID = -3,   /* no server could read the call, so it was not sent */
+    DLOG_EXHAUSTED = -4, /* memory or descriptors ran out. Stop the server */
+    DLOG_FORM = -5       /* an answer has no form of the protocol */
+};
 
 enum dlog_kind {
     DLOG_WELCOME = 0,
@@ -30,16 +43,18 @@ enum dlog_kind {
     DLOG_NOTICE = 128
 };
 
+enum { DLOG_ITEM_LIMIT = 1048576, DLOG_NAME_LIMIT = 64, DLOG_PLACE_BYTES = 17 };
+
 /* Some bytes. */
 struct dlog_bytes {
     const uint8_t *at;
     size_t length;
 };
 
-/* A place in a log, as an answer gave it. */
+/* A place in a log, as an answer gave it. The bytes may be kept and given to a later server. */
 struct dlog_place {
     int given; /* 0: the first item */
-    uint8_t bytes[17];
+    uint8_t bytes[DLOG_PLACE_BYTES];
 };
 
 /* An answer or a notice: its tag, its kind, and its parts, which stand until the next call. */
@@ -48,6 +63,14 @@ struct dlog_answer {
     uint8_t kind;
     const uint8_t *parts;
     size_t length;
+};
+
+/* How a server is started. All zeros: 16 blocks, and no limits of time. */
+struct dlog_settings {
+    uint32_t blocks;    /* 0: 16 */
+    int unsynced_rolls;
+    int wait;           /* the milliseconds that a folder is waited for that another program has */
+    int timeout;        /* the milliseconds that a call may take; 0: no limit */
 };
 
 /* How a log is opened. All zeros: a halt log without limit, read and written, repaired if needed. */
@@ -65,24 +88,53 @@ struct dlog_options {
     uint32_t hold;          /* the most blocks that it may have; 0: as it is open, or else any */
 };
 
+/* A server. Its parts are the client's own. */
 struct dlog {
     pid_t process;
     int input;  /* where requests are written */
     int output; /* where answers are read */
+    int errors; /* where its standard error is read */
+    int has_started, has_ended;
+    int status;
+    int timeout;
+    int64_t deadline;
+    uint32_t frame_limit;
     uint32_t tag;
     uint8_t *out;
-    size_t out_length, out_room;
+    size_t out_at, out_length, out_room;
     uint8_t *in;
     size_t in_at, in_length, in_room;
+    uint8_t *kept; /* an answer that was taken from between others */
+    char words[1024];
+    char fault[1280];
 };
 
-/* Starts `program serve --folder folder`. */
+/* Starts `program serve --folder folder` and waits until it serves. It is in a session of its own and
+ * ignores SIGTERM, SIGINT and SIGHUP, so that no signal that is meant for this program ends it. SIGPIPE
+ * is ignored here from then on. After a fault nothing is left to stop. */
 int dlog_start(struct dlog *dlog, const char *program, const char *folder);
+int dlog_start_with(struct dlog *dlog, const char *program, const char *folder,
+                    const struct dlog_settings *settings);
 
-/* Ends the input of the server, waits for it, and returns its status, or -1. */
+/* Ends the input of the server, which closes its logs, waits for it, and returns its status: 0 if all
+ * was written, 128 and the signal if it was killed, or DLOG_TIMED_OUT; then it may be called again. */
 int dlog_stop(struct dlog *dlog);
 
-/* Calls that wait for their answer. Notices that come meanwhile are passed over. */
+/* Kills a server that does not answer, and waits for it. What waited in it is lost. */
+void dlog_kill(struct dlog *dlog);
+
+/* In a child by fork: gives the server up, which is its parent's. A program that is started by exec
+ * has no part in it as it is. */
+void dlog_forget(struct dlog *dlog);
+
+/* How many milliseconds each call may take from now on; 0: no limit. */
+void dlog_set_timeout(struct dlog *dlog, int milliseconds);
+
+/* What the last fault was, and of a server that has ended its last words on standard error. They are
+ * passed on to standard error too, at its end at the latest. */
+const char *dlog_error(const struct dlog *dlog);
+
+/* Calls that wait for their answer. Notices that come meanwhile are dropped. */
 int dlog_open(struct dlog *dlog, uint32_t client, const char *name,
               const struct dlog_options *options, struct dlog_answer *answer);
 int dlog_log(struct dlog *dlog, uint32_t client, const char *name,
@@ -95,16 +147,25 @@ int dlog_block(struct dlog *dlog, uint32_t client, const char *name, int queue,
                struct dlog_answer *answer);
 int dlog_unblock(struct dlog *dlog, uint32_t client, const char *name, struct dlog_answer *answer);
 
-/* Any call: the number of the call, and its parts after the log's name. */
+/* Any call: the number of the call, and its parts after the log's name. With a name of NULL the parts
+ * are all that follows the number. */
 int dlog_call(struct dlog *dlog, uint8_t op, uint32_t client, const char *name,
               const void *parts, size_t length, struct dlog_answer *answer);
 
-/* Adds a log call to what is to be sent, and stores its tag. With a tag of NULL no answer comes. */
+/* Add a call to what is to be sent, and store its tag. With a tag of NULL no answer comes. */
+int dlog_send(struct dlog *dlog, uint8_t op, uint32_t client, const char *name,
+              const void *parts, size_t length, uint32_t *tag);
 int dlog_send_log(struct dlog *dlog, uint32_t client, const char *name,
                   const struct dlog_bytes *items, uint32_t count, uint32_t *tag);
+int dlog_send_chunk(struct dlog *dlog, uint32_t client, const char *name,
+                    const struct dlog_place *place, uint64_t most, uint32_t *tag);
+int dlog_send_sync(struct dlog *dlog, uint32_t client, const char *name, uint32_t *tag);
 
 /* Writes what is to be sent. */
 int dlog_flush(struct dlog *dlog);
+
+/* Waits for the answer of a call that was sent. Notices that come meanwhile are dropped. */
+int dlog_answer(struct dlog *dlog, uint32_t tag, struct dlog_answer *answer);
 
 /* Waits for the next answer or notice. */
 int dlog_receive(struct dlog *dlog, struct dlog_answer *answer);

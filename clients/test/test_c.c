@@ -1,33 +1,13 @@
 /* The scenarios of the clients, by the C client. Words: the program, and an empty folder. */
-#include "../c/dlog.h"
+#include "test_c.h"
 
-#include <signal.h>
-#include <stdio.h>
-#include <stdlib.h>
-#include <string.h>
 #include <sys/stat.h>
-#include <sys/wait.h>
 #include <time.h>
 
 enum { MANY = 100000, AHEAD = 64, ITEM_BYTES = 100 };
 
-static const char *program;
+const char *program;
 static char folder[4096];
-
-#define CHECK(fact)                                                         \
-    do {                                                                    \
-        if (!(fact)) {                                                      \
-            fprintf(stderr, "c: %s:%d: %s\n", __func__, __LINE__, #fact);   \
-            exit(1);                                                        \
-        }                                                                   \
-    } while (0)
-
-static struct dlog_bytes bytes_of(const char *text)
-{
-    struct dlog_bytes bytes = { (const uint8_t *)text, strlen(text) };
-
-    return bytes;
-}
 
 static void begin(struct dlog *dlog, const char *parent, const char *name)
 {
@@ -201,14 +181,12 @@ static void what_was_synced_stays_after_a_kill(const char *parent)
     struct dlog_answer answer;
     struct dlog_items items;
     struct dlog_bytes item = bytes_of("synced");
-    int status;
 
     begin(&dlog, parent, "kill");
     CHECK(dlog_open(&dlog, 1, "kept", NULL, &answer) == 0 && answer.kind == DLOG_OPENED);
     CHECK(dlog_log(&dlog, 1, "kept", &item, 1, &answer) == 0 && answer.kind == DLOG_DONE);
     CHECK(dlog_sync(&dlog, 1, "kept", &answer) == 0 && answer.kind == DLOG_DONE);
-    CHECK(kill(dlog.process, SIGKILL) == 0 && waitpid(dlog.process, &status, 0) > 0);
-    dlog_stop(&dlog);
+    dlog_kill(&dlog);
     CHECK(dlog_start(&dlog, program, folder) == 0);
     CHECK(dlog_open(&dlog, 1, "kept", NULL, &answer) == 0 && answer.kind == DLOG_REPAIRED);
     CHECK(dlog_chunk(&dlog, 1, "kept", NULL, 9, &answer) == 0 && dlog_items(&answer, &items) == 0);
@@ -258,10 +236,7 @@ static void many_clients_stop_in_order(const char *parent)
     CHECK(dlog_stop(&dlog) == 0);
 }
 
-static const struct {
-    const char *name;
-    void (*run)(const char *parent);
-} scenarios[] = {
+static const struct scenario scenarios[] = {
     { "items come back in order", items_come_back_in_order },
     { "a full log refuses and tells", a_full_log_refuses_and_tells },
     { "a wrap log rolls", a_wrap_log_rolls },
@@ -271,15 +246,23 @@ static const struct {
     { "what was synced stays after a kill", what_was_synced_stays_after_a_kill },
     { "what is no request is told", what_is_no_request_is_told },
     { "many clients stop in order", many_clients_stop_in_order },
+    { NULL, NULL },
 };
+
+static void run(const struct scenario *each, const char *parent)
+{
+    for (; each->name != NULL; each++) {
+        each->run(parent);
+        printf("c: %s\n", each->name);
+        fflush(stdout);
+    }
+}
 
 int main(int count, char **words)
 {
     CHECK(count == 3);
     program = words[1];
-    for (size_t i = 0; i < sizeof scenarios / sizeof *scenarios; i++) {
-        scenarios[i].run(words[2]);
-        printf("c: %s\n", scenarios[i].name);
-    }
+    run(scenarios, words[2]);
+    run(ends, words[2]);
     return 0;
 }

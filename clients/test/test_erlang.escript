@@ -13,7 +13,7 @@ main([Compiled, Program, Folder]) ->
          File = filename:join([Folder, Name, "log"]),
          ok = filelib:ensure_dir(File),
          {_, Monitor} = spawn_monitor(fun() -> Run(fun(Log) -> File ++ Log end) end),
-         receive {'DOWN', Monitor, process, _, normal} -> dlog:stop() end,
+         receive {'DOWN', Monitor, process, _, Why} -> normal = Why, dlog:stop(60000) end,
          io:format("erlang: ~s~n", [Name])
      end || {Name, Run} <- scenarios()].
 
@@ -22,7 +22,7 @@ scenarios() ->
      {"a block keeps the calls of others", fun block/1}, {"a held log has no more than its blocks", fun held/1},
      {"a hundred thousand items pipelined", fun many/1},
      {"what was synced stays after a kill", fun killed/1}, {"what is no request is told", fun no_request/1},
-     {"many clients stop in order", fun clients/1}].
+     {"many clients stop in order", fun clients/1}] ++ ends_erlang:all().
 
 in_order(File) ->
     Words = [{name, words}, {file, File("w")}],
@@ -95,16 +95,15 @@ killed(File) ->
     ok = dlog:log(kept, synced),
     ok = dlog:sync(kept),
     ok = dlog:log(kept, perhaps),
-    [Program] = [Id || Port <- erlang:ports(), {connected, whereis(dlog_port)} =:= erlang:port_info(Port, connected),
-                       {os_pid, Id} <- [erlang:port_info(Port, os_pid)]],
+    [Program] = ends_erlang:programs(),
     "" = os:cmd("kill -KILL " ++ integer_to_list(Program)),
-    until_closed(kept, 500),
+    ends_erlang:until(fun() -> not lists:member(kept, dlog:all()) end),
     {repaired, kept, {recovered, _}, {badbytes, _}} = dlog:open(Kept),
     {_, [synced | _]} = dlog:chunk(kept, start).
 
 no_request(File) ->
-    {error, {no_request, _}} = dlog:open([{name, a}, {file, File(lists:duplicate(200, $x))}]),
     {ok, a} = dlog:open([{name, a}, {file, File("a")}]),
+    [{no_request, Place} = dlog_port:call(a, Number, Rest) || {Number, Rest, Place} <- [{200, [], 4}, {2, [], 11}, {13, "x", 11}]],
     ok = dlog:log(a, "still there").
 
 clients(File) ->
@@ -125,12 +124,4 @@ told() ->
     receive {disk_log, _, _, What} -> What after 5000 -> none end.
 
 items(_, eof, Read) -> lists:append(lists:reverse(Read));
-items(Log, {Next, Items}, Read) -> items(Log, dlog:chunk(Log, Next), [Items | Read]).
-
-%% The logs of a server that has ended are not open.
-until_closed(_, 0) -> error(still_open);
-until_closed(Log, Tries) ->
-    case lists:member(Log, dlog:all()) of
-        true -> timer:sleep(10), until_closed(Log, Tries - 1);
-        false -> ok
-    end.
+items(Log, {Next, Items}, Read) when is_list(Items) -> items(Log, dlog:chunk(Log, Next), [Items | Read]).

@@ -1,12 +1,12 @@
 """The scenarios of the clients, by the Python client. Words: the program."""
 import os
-import signal
 import sys
 import tempfile
 import time
 
 sys.path.insert(0, os.path.join(os.path.dirname(os.path.abspath(__file__)), "..", "python"))
 import dlog  # noqa: E402
+import ends_python  # noqa: E402
 
 PROGRAM = sys.argv[1]
 
@@ -71,7 +71,7 @@ def a_block_keeps_the_calls_of_others(folder):
         one, two = server.client(1), server.client(2)
         log, other = one.open("shared"), two.open("shared")
         log.block(queue=True)
-        waits = server.send(2, other._front + dlog._items((b"late",)))
+        waits = other.send_log(b"late")
         other.alog(b"held")
         assert refusal(log.log, b"mine") == 15
         assert list(log) == []
@@ -126,8 +126,7 @@ def what_was_synced_stays_after_a_kill(folder):
     log.log(b"synced")
     log.sync()
     log.log(b"perhaps")
-    server._process.send_signal(signal.SIGKILL)
-    server._process.wait()
+    server.kill()
     with serve(folder) as server:
         log = server.client(1).open("kept")
         assert log.repaired is not None
@@ -137,26 +136,14 @@ def what_was_synced_stays_after_a_kill(folder):
 def what_is_no_request_is_told(folder):
     with serve(folder) as server:
         log = server.client(1).open("a")
-        for op, parts, place in ((200, b"", 4), (2, log._front, 11), (13, log._front + b"x", 11)):
+        for op, parts, place in ((200, b"", 4), (2, b"", 11), (13, b"x", 11)):
             try:
-                server.call(op, parts)
+                log.call(op, parts)
             except dlog.BadFrame as wrong:
                 assert wrong.place == place, (op, wrong.place)
             else:
                 raise AssertionError(op)
         log.log(b"still there")
-        server._write(b"\xff\xff\xff\xff")
-        try:
-            server.answer(0)
-        except dlog.BadFrame as wrong:
-            assert wrong.place == 0
-        try:
-            log.info()
-        except dlog.Gone:
-            pass
-        else:
-            raise AssertionError("the server goes on")
-        assert server._process.wait() == 1
 
 
 def many_clients_stop_in_order(folder):
@@ -182,7 +169,14 @@ SCENARIOS = (
     many_clients_stop_in_order,
 )
 
-for scenario in SCENARIOS:
+
+def run(scenario, *arguments):
     with tempfile.TemporaryDirectory() as folder:
-        scenario(folder)
-    print("python:", scenario.__name__.replace("_", " "))
+        scenario(*arguments, folder)
+    print("python:", scenario.__name__.replace("_", " "), flush=True)
+
+
+for each in SCENARIOS:
+    run(each)
+for each in ends_python.SCENARIOS:
+    run(each, PROGRAM)

@@ -1,5 +1,8 @@
 //! The scenarios of the clients, by the Rust client. Words: the program, and an empty folder.
 
+#[path = "ends_rust.rs"]
+mod ends;
+
 use dlog::{Error, Extent, Log, Notice, Options, Refused, Reply, Server, Size, Told};
 use std::path::{Path, PathBuf};
 use std::time::Instant;
@@ -7,16 +10,16 @@ use std::time::Instant;
 const MANY: usize = 100_000;
 const AHEAD: usize = 64;
 
-type Outcome = Result<(), Error>;
+pub type Outcome = Result<(), Error>;
 
 /// Where a scenario works: the program, and a folder of its own.
-struct Place {
-    program: PathBuf,
-    folder: PathBuf,
+pub struct Place {
+    pub program: PathBuf,
+    pub folder: PathBuf,
 }
 
 impl Place {
-    fn serve(&self) -> Result<Server, Error> {
+    pub fn serve(&self) -> Result<Server, Error> {
         Server::start(&self.program, &self.folder)
     }
 }
@@ -37,19 +40,16 @@ fn sized(size: Size) -> Options {
     }
 }
 
-fn all(server: &mut Server, log: &Log) -> Result<Vec<Vec<u8>>, Error> {
+pub fn all(server: &Server, log: &Log) -> Result<Vec<Vec<u8>>, Error> {
     server.items(log).collect()
 }
 
 fn items_come_back_in_order(place: &Place) -> Outcome {
     let log = Log::new(1, "words");
-    let mut server = place.serve()?;
+    let server = place.serve()?;
     server.open(&log, &Options::default())?;
     server.log(&log, &["first", "second", ""])?;
-    assert_eq!(
-        all(&mut server, &log)?,
-        [b"first".as_slice(), b"second", b""]
-    );
+    assert_eq!(all(&server, &log)?, [b"first".as_slice(), b"second", b""]);
     let Reply::Items {
         next,
         bad: 0,
@@ -64,16 +64,16 @@ fn items_come_back_in_order(place: &Place) -> Outcome {
     };
     assert_eq!(items, [b""]);
     assert_eq!(server.chunk(&log, Some(next), 9)?, Reply::Eof);
-    assert!(server.stop().is_ok_and(|status| status.success()));
-    let mut server = place.serve()?;
+    server.stop()?;
+    let server = place.serve()?;
     assert_eq!(server.open(&log, &Options::default())?, Reply::Opened);
-    assert_eq!(all(&mut server, &log)?.len(), 3);
+    assert_eq!(all(&server, &log)?.len(), 3);
     Ok(())
 }
 
 fn a_full_log_refuses_and_tells(place: &Place) -> Outcome {
     let log = Log::new(1, "small");
-    let mut server = place.serve()?;
+    let server = place.serve()?;
     server.open(&log, &sized(Size::Bytes(40)))?;
     assert_eq!(refusal(server.log(&log, &["12345678", "9"])), 14);
     let told = server.notices()?;
@@ -108,7 +108,7 @@ fn a_wrap_log_rolls(place: &Place) -> Outcome {
         bytes: 40,
         files: 2,
     };
-    let mut server = place.serve()?;
+    let server = place.serve()?;
     server.open(
         &log,
         &Options {
@@ -153,17 +153,17 @@ fn a_wrap_log_rolls(place: &Place) -> Outcome {
 
 fn a_block_keeps_the_calls_of_others(place: &Place) -> Outcome {
     let (log, other) = (Log::new(1, "shared"), Log::new(2, "shared"));
-    let mut server = place.serve()?;
+    let server = place.serve()?;
     server.open(&log, &Options::default())?;
     server.open(&other, &Options::default())?;
     server.block(&log, true)?;
     let late = server.send_log(&other, &["late"]);
     server.alog(&other, &["held"])?;
     assert_eq!(refusal(server.log(&log, &["mine"])), 15);
-    assert!(all(&mut server, &log)?.is_empty());
+    assert!(all(&server, &log)?.is_empty());
     server.unblock(&log)?;
     server.answer(late)?;
-    let mut items = all(&mut server, &log)?;
+    let mut items = all(&server, &log)?;
     items.sort();
     assert_eq!(items, [b"held", b"late"]);
     server.block(&log, false)?;
@@ -171,7 +171,7 @@ fn a_block_keeps_the_calls_of_others(place: &Place) -> Outcome {
     server.exit(1)?;
     server.log(&other, &["yes"])?;
     assert_eq!(
-        all(&mut server, &other)?.pop().as_deref(),
+        all(&server, &other)?.pop().as_deref(),
         Some(b"yes".as_slice())
     );
     Ok(())
@@ -183,7 +183,7 @@ fn a_held_log_has_no_more_than_its_blocks(place: &Place) -> Outcome {
         hold: Some(blocks),
         ..Options::default()
     };
-    let mut server = place.serve()?;
+    let server = place.serve()?;
     assert_eq!(refusal(server.open(&log, &held(0))), 1);
     server.open(&log, &held(1))?;
     let items: Vec<String> = (0..3).map(|number| format!("{number:03000}")).collect();
@@ -195,7 +195,7 @@ fn a_held_log_has_no_more_than_its_blocks(place: &Place) -> Outcome {
         Err(Error::Refused(Refused::Argument(4, "hold")))
     ));
     server.open(&other, &Options::default())?;
-    assert!(all(&mut server, &other)?
+    assert!(all(&server, &other)?
         .iter()
         .eq(items.iter().map(String::as_bytes)));
     assert!(server
@@ -208,7 +208,7 @@ fn a_held_log_has_no_more_than_its_blocks(place: &Place) -> Outcome {
 fn a_hundred_thousand_items_pipelined(place: &Place) -> Outcome {
     let log = Log::new(1, "many");
     let items: Vec<String> = (0..MANY).map(|number| format!("{number:0100}")).collect();
-    let mut server = place.serve()?;
+    let server = place.serve()?;
     server.open(&log, &Options::default())?;
     let start = Instant::now();
     server.log_many(&log, &items, AHEAD)?;
@@ -216,7 +216,7 @@ fn a_hundred_thousand_items_pipelined(place: &Place) -> Outcome {
         "  {:.0} items of 100 bytes a second",
         MANY as f64 / start.elapsed().as_secs_f64()
     );
-    assert!(all(&mut server, &log)?
+    assert!(all(&server, &log)?
         .iter()
         .eq(items.iter().map(String::as_bytes)));
     Ok(())
@@ -224,24 +224,24 @@ fn a_hundred_thousand_items_pipelined(place: &Place) -> Outcome {
 
 fn what_was_synced_stays_after_a_kill(place: &Place) -> Outcome {
     let log = Log::new(1, "kept");
-    let mut server = place.serve()?;
+    let server = place.serve()?;
     server.open(&log, &Options::default())?;
     server.log(&log, &["synced"])?;
     server.sync(&log)?;
     server.log(&log, &["perhaps"])?;
     server.kill()?;
-    let mut server = place.serve()?;
+    let server = place.serve()?;
     assert!(matches!(
         server.open(&log, &Options::default())?,
         Reply::Repaired { .. }
     ));
-    assert_eq!(all(&mut server, &log)?[0], b"synced");
+    assert_eq!(all(&server, &log)?[0], b"synced");
     Ok(())
 }
 
 fn what_is_no_request_is_told(place: &Place) -> Outcome {
     let log = Log::new(1, "a");
-    let mut server = place.serve()?;
+    let server = place.serve()?;
     server.open(&log, &Options::default())?;
     for (number, rest, at) in [(200, "", 4), (2, "", 11), (13, "x", 11)] {
         let tag = server.send(number, &log, |parts| parts.extend(rest.as_bytes()));
@@ -255,19 +255,19 @@ fn what_is_no_request_is_told(place: &Place) -> Outcome {
 }
 
 fn many_clients_stop_in_order(place: &Place) -> Outcome {
-    let mut server = place.serve()?;
+    let server = place.serve()?;
     for number in 1..50 {
         let log = Log::new(number, &format!("log{number}"));
         server.open(&log, &Options::default())?;
         server.log(&log, &[number.to_string()])?;
     }
     assert_eq!(server.flush_all()?, Reply::Turn(dlog::Turn::Idle));
-    assert!(server.stop().is_ok_and(|status| status.success()));
-    let mut server = place.serve()?;
+    server.stop()?;
+    let server = place.serve()?;
     for number in 1..50 {
         let log = Log::new(7, &format!("log{number}"));
         assert_eq!(server.open(&log, &Options::default())?, Reply::Opened);
-        assert_eq!(all(&mut server, &log)?, [number.to_string().as_bytes()]);
+        assert_eq!(all(&server, &log)?, [number.to_string().as_bytes()]);
     }
     Ok(())
 }
@@ -298,7 +298,12 @@ const SCENARIOS: [(&str, fn(&Place) -> Outcome); 9] = [
 
 fn main() -> Outcome {
     let words: Vec<String> = std::env::args().collect();
-    for (number, (name, run)) in SCENARIOS.iter().enumerate() {
+    if let [_, program, folder, "be ended"] =
+        words.iter().map(String::as_str).collect::<Vec<_>>()[..]
+    {
+        return ends::be_ended(program, folder);
+    }
+    for (number, (name, run)) in SCENARIOS.iter().chain(ends::SCENARIOS).enumerate() {
         let folder = Path::new(&words[2]).join(number.to_string());
         std::fs::create_dir(&folder)?;
         run(&Place {

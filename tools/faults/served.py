@@ -47,7 +47,10 @@ def serve(program, scratch, folder, fault):
     for name, (size, items) in LOGS.items():
         client.open(name, size=size).log(*items)
     before = calls(scratch)
-    status = server.stop()
+    try:
+        status = server.stop()
+    except dlog.Gone as gone:
+        status = gone.status
     with open(f"{scratch}/told", encoding="utf-8") as told:
         return before, calls(scratch), status, told.read()
 

@@ -1,21 +1,27 @@
 %% The calls of disk_log, over `dlog serve`.
 -module(dlog).
 
--export([open/1, close/1, all/0, info/1, sync/1, format_error/1, stop/0]).
+-export([open/1, close/1, lclose/1, lclose/2, all/0, accessible_logs/0, info/1, sync/1, format_error/1, stop/0, stop/1]).
 -export([log/2, log_terms/2, alog/2, alog_terms/2, blog/2, blog_terms/2, balog/2, balog_terms/2]).
 -export([chunk/2, chunk/3, bchunk/2, bchunk/3, chunk_step/3, chunk_info/1]).
 -export([truncate/1, truncate/2, btruncate/2, reopen/2, reopen/3, breopen/3, inc_wrap_file/1, change_size/2, change_notify/3]).
 -export([block/1, block/2, unblock/1]).
--export([told/2]).
 
--export_type([continuation/0]).
+-export_type([log/0, continuation/0, result/0]).
 
 -define(NO_LIMIT, 16#ffffffffffffffff).
+-define(ITEM_LIMIT, 1048576).
 
+-type log() :: term().
+-type result() :: ok | {error, Reason :: term()}.
+-type chunk() :: {continuation(), [term()]} | {continuation(), [term()], Bad :: non_neg_integer()} | eof | {error, term()}.
+
+%% A place in a log, which may be kept and given to a later server.
 -opaque continuation() :: {dlog_place, binary()}.
 
 %% Opens, and ends.
 
+-spec open([term()]) -> {ok, log()} | {repaired, log(), {recovered, non_neg_integer()}, {badbytes, non_neg_integer()}} | {error, term()}.
 open(Options) ->
     case dlog_options:read(Options) of
         {ok, #{name := Log, file := File} = Given} ->
@@ -39,8 +45,14 @@ open(Log, #{notify := Notify, linkto := Pid} = Given, {ok, #{owners := Owners, f
 open(Log, Given, error) ->
     opened(Log, Given).
 
-opened(Log, #{file := File} = Given) ->
-    case dlog_port:open(Log, Given, parts_of(Given)) of
+opened(Log, #{file := File, folder := Folder} = Given) ->
+    case filelib:is_dir(Folder) of
+        true -> opened(dlog_port:open(Log, Given, dlog_options:parts(Given)), Log, Given);
+        false -> {error, {file_error, File, enoent}}
+    end.
+
+opened(Said, Log, #{file := File} = Given) ->
+    case Said of
         opened -> {ok, Log};
         {repaired, Kept, Bad} -> {repaired, Log, {recovered, Kept}, {badbytes, Bad}};
         {refused, 4, head} -> {error, {arg_mismatch, head, head_of(Log), maps:get(head, Given)}};
@@ -50,48 +62,90 @@ opened(Log, #{file := File} = Given) ->
         {refused, 9, none} -> {error, {file_error, File, enoent}};
         {refused, 10, _} -> {error, {not_a_log_file, File}};
         {refused, 11, none} -> {error, {invalid_index_file, File ++ ".idx"}};
-        Said -> answer(Log, Said)
+        Said -> dlog_reason:answer(Log, Said)
     end.
 
-parts_of(#{file := File, type := Type, size := Size, mode := Mode, repair := Repair, head := Head, notify := Notify, linkto := To, hold := Hold}) ->
-    [number(Type, [halt, wrap]),
-     dlog_frame:option(fun dlog_frame:text/1, dlog_options:base_of(File)),
-     dlog_frame:option(fun(It) -> dlog_frame:size(dlog_options:to_wire(It)) end, Size),
-     number(Mode, [read_write, read_only]),
-     number(Repair, [true, false, truncate]),
-     dlog_frame:option(fun dlog_frame:bytes/1, Head),
-     number(Notify, [false, true]),
-     case To of none -> 1; _ -> 0 end,
-     dlog_frame:option(fun dlog_frame:blocks/1, Hold)].
-
-%% The place of a value among those that it may be.
-number(Value, Values) ->
-    length(lists:takewhile(fun(It) -> It =/= Value end, Values)).
-
+-spec close(log()) -> result().
 close(Log) -> call(Log, 14, []).
+
+%% A log has no part on another node.
+-spec lclose(log()) -> result().
+lclose(Log) -> close(Log).
+
+-spec lclose(log(), node()) -> result().
+lclose(Log, Node) when Node =:= node() -> close(Log);
+lclose(_, _) -> {error, no_such_log}.
+
+-spec sync(log()) -> result().
 sync(Log) -> call(Log, 10, []).
-stop() -> dlog_port:stop().
+
+%% Closes all logs and ends the servers. An error has the folders of which something could not be written.
+-spec stop() -> ok | {error, {not_written, [file:filename()]}}.
+stop() -> stop(infinity).
+
+%% The same, with as many milliseconds for each server; one that takes more is left to end by itself.
+-spec stop(timeout()) -> ok | {error, {not_written, [file:filename()]}}.
+stop(Timeout) ->
+    case dlog_port:stop(Timeout) of
+        [] -> ok;
+        Folders -> {error, {not_written, Folders}}
+    end.
+
+-spec all() -> [log()].
 all() -> lists:sort(dlog_port:all()).
+
+-spec accessible_logs() -> {[log()], []}.
+accessible_logs() -> {all(), []}.
 
 %% Items.
 
-log(Log, Term) -> call(Log, 2, dlog_frame:items([term_to_binary(Term)])).
-log_terms(_, []) -> ok;
-log_terms(Log, Terms) -> call(Log, 2, dlog_frame:items([term_to_binary(It) || It <- Terms])).
+-spec log(log(), term()) -> result().
+log(Log, Term) -> write(Log, [term_to_binary(Term)]).
+
+-spec log_terms(log(), [term()]) -> result().
+log_terms(Log, Terms) -> write(Log, [term_to_binary(It) || It <- Terms]).
+
+-spec alog(log(), term()) -> result().
 alog(Log, Term) -> send(Log, [term_to_binary(Term)]).
+
+-spec alog_terms(log(), [term()]) -> result().
 alog_terms(Log, Terms) -> send(Log, [term_to_binary(It) || It <- Terms]).
-blog(Log, Bytes) -> call(Log, 2, dlog_frame:items([iolist_to_binary(Bytes)])).
-blog_terms(_, []) -> ok;
-blog_terms(Log, Bytes) -> call(Log, 2, dlog_frame:items([iolist_to_binary(It) || It <- Bytes])).
+
+-spec blog(log(), iodata()) -> result().
+blog(Log, Bytes) -> write(Log, [iolist_to_binary(Bytes)]).
+
+-spec blog_terms(log(), [iodata()]) -> result().
+blog_terms(Log, Bytes) -> write(Log, [iolist_to_binary(It) || It <- Bytes]).
+
+-spec balog(log(), iodata()) -> result().
 balog(Log, Bytes) -> send(Log, [iolist_to_binary(Bytes)]).
+
+-spec balog_terms(log(), [iodata()]) -> result().
 balog_terms(Log, Bytes) -> send(Log, [iolist_to_binary(It) || It <- Bytes]).
 
-send(_, []) -> ok;
-send(Log, Items) -> answer(Log, dlog_port:send(Log, 3, dlog_frame:items(Items))).
+write(_, []) -> ok;
+write(Log, Items) -> fitting(Items, fun() -> call(Log, 2, dlog_frame:items(Items)) end).
 
+send(_, []) -> ok;
+send(Log, Items) -> fitting(Items, fun() -> dlog_reason:answer(Log, dlog_port:send(Log, 3, dlog_frame:items(Items))) end).
+
+%% Makes a call whose items are no longer than any may be.
+fitting(Items, Call) ->
+    case [byte_size(Item) || Item <- Items, byte_size(Item) > ?ITEM_LIMIT] of
+        [] -> Call();
+        [Bytes | _] -> {error, {item_too_long, Bytes, ?ITEM_LIMIT}}
+    end.
+
+-spec chunk(log(), start | continuation()) -> chunk().
 chunk(Log, From) -> chunk(Log, From, infinity).
+
+-spec chunk(log(), start | continuation(), pos_integer() | infinity) -> chunk().
 chunk(Log, From, Most) -> read(Log, From, Most, fun erlang:binary_to_term/1).
+
+-spec bchunk(log(), start | continuation()) -> chunk().
 bchunk(Log, From) -> bchunk(Log, From, infinity).
+
+-spec bchunk(log(), start | continuation(), pos_integer() | infinity) -> chunk().
 bchunk(Log, From, Most) -> read(Log, From, Most, fun(Item) -> Item end).
 
 read(Log, start, Most, Decode) -> read_at(Log, start, Most, Decode);
@@ -104,9 +158,10 @@ read_at(Log, Place, Most, Decode) when is_integer(Most), Most > 0 ->
         {items, Next, 0, Items} -> {{dlog_place, Next}, [Decode(It) || It <- Items]};
         {items, Next, Bad, Items} -> {{dlog_place, Next}, [Decode(It) || It <- Items], Bad};
         eof -> eof;
-        Said -> answer(Log, Said)
+        Said -> dlog_reason:answer(Log, Said)
     end.
 
+-spec chunk_step(log(), start | continuation(), integer()) -> {ok, continuation()} | {error, term()}.
 chunk_step(Log, start, By) -> step(Log, start, By);
 chunk_step(Log, {dlog_place, Place}, By) -> step(Log, Place, By);
 chunk_step(_, _, _) -> {error, {badarg, continuation}}.
@@ -115,28 +170,58 @@ step(Log, Place, By) ->
     case dlog_port:call(Log, 5, [dlog_frame:place(Place), <<By:32/signed>>]) of
         {at, Next} -> {ok, {dlog_place, Next}};
         {refused, 18, none} -> {error, {not_internal_wrap, Log}};
-        Said -> answer(Log, Said)
+        Said -> dlog_reason:answer(Log, Said)
     end.
 
+-spec chunk_info(continuation()) -> [{node, node()}] | {error, term()}.
 chunk_info({dlog_place, _}) -> [{node, node()}];
 chunk_info(Other) -> {error, {no_continuation, Other}}.
 
 %% Files.
 
-truncate(Log) -> call(Log, 6, dlog_frame:option(fun dlog_frame:bytes/1, none)).
-truncate(Log, Head) -> btruncate(Log, term_to_binary(Head)).
-btruncate(Log, Head) -> call(Log, 6, dlog_frame:option(fun dlog_frame:bytes/1, iolist_to_binary(Head))).
+-spec truncate(log()) -> result().
+truncate(Log) -> truncated(Log, none).
+
+-spec truncate(log(), term()) -> result().
+truncate(Log, Head) -> truncated(Log, term_to_binary(Head)).
+
+-spec btruncate(log(), iodata()) -> result().
+btruncate(Log, Head) -> truncated(Log, iolist_to_binary(Head)).
+
+truncated(Log, Head) ->
+    fitting(heads(Head), fun() -> call(Log, 6, dlog_frame:option(fun dlog_frame:bytes/1, Head)) end).
+
+heads(none) -> [];
+heads(Head) -> [Head].
+
+-spec reopen(log(), file:filename()) -> result().
 reopen(Log, File) -> reopened(Log, File, none).
+
+-spec reopen(log(), file:filename(), term()) -> result().
 reopen(Log, File, Head) -> reopened(Log, File, term_to_binary(Head)).
+
+-spec breopen(log(), file:filename(), iodata()) -> result().
 breopen(Log, File, Head) -> reopened(Log, File, iolist_to_binary(Head)).
 
 reopened(Log, File, Head) ->
-    call(Log, 7, [dlog_frame:text(dlog_options:base_of(File)), dlog_frame:option(fun dlog_frame:bytes/1, Head)]).
+    Parts = fun(Base) -> [dlog_frame:text(Base), dlog_frame:option(fun dlog_frame:bytes/1, Head)] end,
+    case dlog_options:file(File) of
+        {ok, Base} -> fitting(heads(Head), fun() -> call(Log, 7, Parts(Base)) end);
+        Error -> Error
+    end.
 
+-spec inc_wrap_file(log()) -> result().
 inc_wrap_file(Log) -> call(Log, 8, []).
-change_size(Log, Size) -> call(Log, 9, dlog_frame:size(dlog_options:to_wire(Size))).
+
+-spec change_size(log(), pos_integer() | infinity | {pos_integer(), pos_integer()}) -> result().
+change_size(Log, Size) ->
+    case call(Log, 9, dlog_frame:size(dlog_options:to_wire(Size))) of
+        ok -> dlog_port:resized(Log, Size);
+        Error -> Error
+    end.
 
 %% A second open by the owner gives the log another notify value.
+-spec change_notify(log(), pid(), boolean()) -> result().
 change_notify(Log, Owner, Notify) ->
     case dlog_port:find(Log) of
         {ok, #{owners := Owners} = Known} ->
@@ -149,27 +234,33 @@ change_notify(Log, Owner, Notify) ->
     end.
 
 change(Log, Known) ->
-    Parts = parts_of(Known#{size => none, head => none, repair => true, hold => none}),
+    Parts = dlog_options:parts(Known#{size => none, head => none, repair => true, hold => none}),
     case dlog_port:open(Log, Known, Parts) of
         opened -> ok;
-        Said -> answer(Log, Said)
+        Said -> dlog_reason:answer(Log, Said)
     end.
 
 %% Blocks.
 
+-spec block(log()) -> result().
 block(Log) -> block(Log, true).
-block(Log, Queue) -> call(Log, 11, [number(Queue, [false, true])]).
+
+-spec block(log(), boolean()) -> result().
+block(Log, Queue) when is_boolean(Queue) -> call(Log, 11, [case Queue of true -> 1; false -> 0 end]).
+
+-spec unblock(log()) -> result().
 unblock(Log) -> call(Log, 12, []).
 
 %% What a log is.
 
+-spec info(log()) -> [{atom(), term()}] | {error, term()}.
 info(Log) ->
     case dlog_port:call(Log, 13, []) of
         {info, Info} ->
             {ok, Known} = dlog_port:find(Log),
             info(Log, Known, Info);
         Said ->
-            answer(Log, Said)
+            dlog_reason:answer(Log, Said)
     end.
 
 info(Log, #{file := File, owners := Owners}, #{type := Type, size := Size, mode := Mode, users := Users, status := Status, writing := Writing}) ->
@@ -196,50 +287,8 @@ hold_of(Log) ->
 head_of(Log) ->
     case lists:keyfind(head, 1, info(Log)) of {head, Head} -> Head; false -> none end.
 
-%% What the server says, in the words of disk_log.
-
 call(Log, Number, Parts) ->
-    answer(Log, dlog_port:call(Log, Number, Parts)).
+    dlog_reason:answer(Log, dlog_port:call(Log, Number, Parts)).
 
-answer(_, done) -> ok;
-answer(_, ok) -> ok;
-answer(Log, suspended) -> {error, {blocked_log, Log}};
-answer(_, no_memory) -> {error, no_memory};
-answer(_, {stopped, Status}) -> {error, {dlog_stopped, Status}};
-answer(_, {no_request, Place}) -> {error, {no_request, Place}};
-answer(Log, {refused, Number, Of}) -> {error, reason(Log, Number, Of)}.
-
-reason(_, 1, Argument) -> {badarg, Argument};
-reason(_, 2, _) -> no_such_log;
-reason(Log, 3, _) -> {name_already_open, Log};
-reason(_, 4, Argument) -> {arg_mismatch, Argument};
-reason(_, 5, {Old, New}) -> {size_mismatch, dlog_options:from_wire(Old), dlog_options:from_wire(New)};
-reason(Log, 6, _) -> {open_read_write, Log};
-reason(Log, 7, _) -> {open_read_only, Log};
-reason(_, 8, Other) -> {file_in_use, Other};
-reason(Log, 12, _) -> {need_repair, Log};
-reason(Log, 13, _) -> {read_only_mode, Log};
-reason(Log, 14, _) -> {full, Log};
-reason(Log, 15, _) -> {blocked_log, Log};
-reason(Log, 16, _) -> {not_blocked, Log};
-reason(Log, 17, _) -> {not_blocked_by_pid, Log};
-reason(Log, 18, _) -> {halt_log, Log};
-reason(Log, 19, Bytes) -> {new_size_too_small, Log, dlog_options:from_wire(Bytes)};
-reason(Log, 20, _) -> {same_file_name, Log};
-reason(_, 21, _) -> stale_continuation;
-reason(_, 22, _) -> end_of_log;
-reason(Log, 23, File) -> {corrupt_log_file, file_of(Log, File)};
-reason(_, 24, File) -> {file_error, File, eio};
-reason(_, 25, _) -> exhausted.
-
-file_of(Log, File) ->
-    {ok, #{file := Name, type := Type}} = dlog_port:find(Log),
-    case Type of halt -> Name; wrap -> Name ++ "." ++ integer_to_list(File) end.
-
-%% A notice, as its owner is sent it.
-told(_, {status, ok}) -> {error_status, ok};
-told(Log, {status, {refused, Number, Of}}) -> {error_status, {error, reason(Log, Number, Of)}};
-told(_, no_such_log) -> {error, no_such_log};
-told(_, Notice) -> Notice.
-
+-spec format_error(term()) -> io_lib:chars().
 format_error(Error) -> disk_log:format_error(Error).

@@ -1,7 +1,7 @@
 %% The texts of frames: requests as they are written, and answers as they are read (docs/PROTOCOL.md).
 -module(dlog_frame).
 
--export([text/1, bytes/1, items/1, option/2, size/1, blocks/1, place/1, request/3, answer/1]).
+-export([text/1, bytes/1, items/1, option/2, size/1, blocks/1, place/1, frame/3, split/1, answer/1]).
 
 -export_type([answer/0]).
 
@@ -12,8 +12,10 @@
 
 %% The parts of a request.
 
-request(Tag, Number, Parts) ->
-    [<<Tag:32, Number>>, Parts].
+%% A request with its length before it.
+-spec frame(non_neg_integer(), byte(), iodata()) -> iodata().
+frame(Tag, Number, Parts) ->
+    [<<(5 + iolist_size(Parts)):32, Tag:32, Number>>, Parts].
 
 text(Text) ->
     <<(byte_size(Text)), Text/binary>>.
@@ -35,6 +37,13 @@ blocks(Number) -> <<Number:32>>.
 
 place(start) -> <<0>>;
 place(Place) -> <<1, Place:?PLACE_BYTES/binary>>.
+
+%% The whole texts at the front of what was read, and the rest.
+-spec split(binary()) -> {[binary()], binary()}.
+split(Read) -> split(Read, []).
+
+split(<<Length:32, Text:Length/binary, Rest/binary>>, Texts) -> split(Rest, [Text | Texts]);
+split(Rest, Texts) -> {lists:reverse(Texts), Rest}.
 
 %% The parts of an answer.
 

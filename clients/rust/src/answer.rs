@@ -3,9 +3,22 @@
 use crate::error::{Error, Refused};
 use crate::parts::{Mode, Size};
 
-/// A place in a log, as an answer gave it.
+/// A place in a log, as an answer gave it. Its bytes may be kept, and given to a later server.
 #[derive(Clone, Copy, Debug, PartialEq, Eq)]
-pub struct Place(pub(crate) [u8; 17]);
+pub struct Place([u8; Place::BYTES]);
+
+impl Place {
+    pub const BYTES: usize = 17;
+
+    /// The place whose bytes were kept.
+    pub fn from_bytes(bytes: [u8; Place::BYTES]) -> Place {
+        Place(bytes)
+    }
+
+    pub fn as_bytes(&self) -> &[u8; Place::BYTES] {
+        &self.0
+    }
+}
 
 /// What became of a flush.
 #[derive(Clone, Debug, PartialEq, Eq)]

@@ -3,6 +3,7 @@
 use crate::parts::Size;
 use std::fmt;
 use std::io;
+use std::process::ExitStatus;
 
 const REFUSALS: [&str; 26] = [
     "",
@@ -76,18 +77,35 @@ impl fmt::Display for Refused {
     }
 }
 
+/// How a server has ended.
+#[derive(Clone, Debug)]
+pub struct Ended {
+    /// None if it is not known.
+    pub status: Option<ExitStatus>,
+    /// Its last words on standard error.
+    pub words: String,
+    /// Whether the call was sent, and so may have been done or not.
+    pub may_be_done: bool,
+}
+
 #[derive(Debug)]
 pub enum Error {
     /// The server refused the call.
     Refused(Refused),
+    /// No server could read the call, so it was not sent: a name that no log can have, an item or a request that is too long.
+    Invalid(String),
     /// The server could not read the request; the first wrong part of its text begins there.
     NoRequest(u32),
     /// A block keeps the call off, and too many calls wait already.
     Suspended,
     /// The server was refused memory, and did nothing.
     NoMemory,
-    /// The server has ended.
-    Gone,
+    /// The server has ended, or did not start.
+    Gone(Ended),
+    /// The server did not answer in time. The call may yet be done.
+    TimedOut,
+    /// No answer is awaited for this tag.
+    NoCall(u32),
     /// An answer is of no form of version 2.
     Form,
     /// The program could not be started.
@@ -100,14 +118,33 @@ impl From<io::Error> for Error {
     }
 }
 
+impl fmt::Display for Ended {
+    fn fmt(&self, out: &mut fmt::Formatter<'_>) -> fmt::Result {
+        write!(out, "the server has ended")?;
+        if let Some(status) = self.status {
+            write!(out, " with {status}")?;
+        }
+        if !self.words.is_empty() {
+            write!(out, ": {}", self.words)?;
+        }
+        Ok(())
+    }
+}
+
 impl fmt::Display for Error {
     fn fmt(&self, out: &mut fmt::Formatter<'_>) -> fmt::Result {
         match self {
             Error::Refused(refused) => write!(out, "{refused}"),
+            Error::Invalid(why) => write!(out, "{why}"),
             Error::NoRequest(place) => write!(out, "no request from byte {place} on"),
             Error::Suspended => write!(out, "suspended"),
             Error::NoMemory => write!(out, "out of memory"),
-            Error::Gone => write!(out, "the server has ended"),
+            Error::Gone(ended) => write!(out, "{ended}"),
+            Error::TimedOut => write!(
+                out,
+                "the server has not answered in time; the call may yet be done"
+            ),
+            Error::NoCall(tag) => write!(out, "no answer is awaited for the tag {tag}"),
             Error::Form => write!(out, "an answer is of no form"),
             Error::Start(error) => write!(out, "the server could not be started: {error}"),
         }

@@ -7,7 +7,7 @@ const MOST: u64 = 4096;
 
 /// The items of a log, read a chunk at a time.
 pub struct Items<'a> {
-    server: &'a mut Server,
+    server: &'a Server,
     log: &'a Log,
     next: Option<Place>,
     items: std::vec::IntoIter<Vec<u8>>,
@@ -15,7 +15,7 @@ pub struct Items<'a> {
 }
 
 impl<'a> Items<'a> {
-    pub(crate) fn new(server: &'a mut Server, log: &'a Log) -> Items<'a> {
+    pub(crate) fn new(server: &'a Server, log: &'a Log) -> Items<'a> {
         Items {
             server,
             log,

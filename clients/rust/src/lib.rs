@@ -2,7 +2,7 @@
 //!
 //! ```no_run
 //! # fn main() -> Result<(), dlog::Error> {
-//! let mut server = dlog::Server::start("dlog", "logs")?;
+//! let server = dlog::Server::start("dlog", "logs")?;
 //! let log = dlog::Log::new(1, "audit");
 //! server.open(&log, &dlog::Options::default())?;
 //! server.log(&log, &["first", "second"])?;
@@ -15,17 +15,21 @@
 //! ```
 
 mod answer;
+mod calls;
 mod error;
 mod items;
 mod parts;
+mod pipe;
+mod process;
+mod program;
 mod reading;
 mod server;
 
 pub use answer::{Answer, Extent, Info, Notice, Place, Reply, Told, Turn, Writing};
-pub use error::{Error, Refused};
+pub use error::{Ended, Error, Refused};
 pub use items::Items;
-pub use parts::{Mode, Options, Repair, Size};
-pub use server::Server;
+pub use parts::{Mode, Options, Repair, Size, ITEM_LIMIT, NAME_LIMIT};
+pub use server::{Server, Settings};
 
 /// A log, as one client knows it. A client is a number that the program chooses.
 #[derive(Clone, Debug, PartialEq, Eq)]

@@ -1,6 +1,13 @@
 //! The parts of requests.
 
-use crate::{Log, Place};
+use crate::{Error, Log, Place};
+
+/// The most bytes of an item.
+pub const ITEM_LIMIT: usize = 1_048_576;
+/// What most requests are shorter than.
+const USUAL_BYTES: usize = 256;
+/// The most letters of a name.
+pub const NAME_LIMIT: usize = 64;
 
 /// How long a log may become.
 #[derive(Clone, Copy, Debug, PartialEq, Eq)]
@@ -48,90 +55,135 @@ pub struct Options {
 }
 
 impl Options {
-    pub(crate) fn push(&self, parts: &mut Vec<u8>) {
+    pub(crate) fn push(&self, parts: &mut Parts) {
         let wrap = self.wrap || matches!(self.size, Some(Size::Wrap { .. }));
-        parts.push(wrap.into());
-        push_option(parts, self.base.as_deref(), push_text);
-        push_option(parts, self.size, |parts, size| size.push(parts));
-        parts.push(self.mode as u8);
-        parts.push(self.repair as u8);
-        push_option(parts, self.head.as_deref(), push_bytes);
-        parts.push(self.notify.into());
-        parts.push(self.anonymous.into());
-        push_option(parts, self.hold, |parts, blocks| {
-            parts.extend(blocks.to_be_bytes())
-        });
+        parts.byte(wrap.into());
+        parts.option(self.base.as_deref(), Parts::name);
+        parts.option(self.size, Parts::size);
+        parts.byte(self.mode as u8);
+        parts.byte(self.repair as u8);
+        parts.option(self.head.as_deref(), Parts::item);
+        parts.byte(self.notify.into());
+        parts.byte(self.anonymous.into());
+        parts.option(self.hold, Parts::u32);
     }
 }
 
-impl Size {
-    pub(crate) fn push(self, parts: &mut Vec<u8>) {
-        match self {
-            Size::Infinity => parts.push(0),
+/// A request that is put together, and why no server could read it.
+pub(crate) struct Parts {
+    bytes: Vec<u8>,
+    fault: Option<String>,
+}
+
+impl Parts {
+    /// Begins a request, whose length is set as it ends.
+    pub(crate) fn request(tag: u32, number: u8) -> Parts {
+        let mut parts = Parts {
+            bytes: Vec::with_capacity(USUAL_BYTES),
+            fault: None,
+        };
+        parts.u32(0);
+        parts.u32(tag);
+        parts.byte(number);
+        parts
+    }
+
+    /// The frame of the request, of a text with at most so many bytes.
+    pub(crate) fn frame(mut self, limit: u32) -> Result<Vec<u8>, Error> {
+        let length = self.bytes.len() - 4;
+        if let Some(fault) = self.fault {
+            return Err(Error::Invalid(fault));
+        }
+        match u32::try_from(length) {
+            Ok(number) if number <= limit => {
+                self.bytes[..4].copy_from_slice(&number.to_be_bytes());
+                Ok(self.bytes)
+            }
+            _ => Err(Error::Invalid(format!(
+                "a request of {length} bytes: it has at most {limit}"
+            ))),
+        }
+    }
+
+    /// What follows as the program has it.
+    pub(crate) fn bytes(&mut self) -> &mut Vec<u8> {
+        &mut self.bytes
+    }
+
+    pub(crate) fn byte(&mut self, byte: u8) {
+        self.bytes.push(byte);
+    }
+
+    pub(crate) fn u32(&mut self, number: u32) {
+        self.bytes.extend(number.to_be_bytes());
+    }
+
+    fn u64(&mut self, number: u64) {
+        self.bytes.extend(number.to_be_bytes());
+    }
+
+    pub(crate) fn log(&mut self, log: &Log) {
+        self.u32(log.client);
+        self.name(&log.name);
+    }
+
+    /// A name or a base.
+    pub(crate) fn name(&mut self, name: &str) {
+        let is_letter = |byte: u8| byte.is_ascii_alphanumeric() || byte == b'_' || byte == b'-';
+        if name.is_empty() || name.len() > NAME_LIMIT || !name.bytes().all(is_letter) {
+            self.refuse(format!(
+                "the name {name:?}: a name is 1 to {NAME_LIMIT} of A-Z a-z 0-9 _ -"
+            ));
+        }
+        self.byte(name.len() as u8);
+        self.bytes.extend(name.as_bytes());
+    }
+
+    pub(crate) fn item(&mut self, item: &[u8]) {
+        if item.len() > ITEM_LIMIT {
+            self.refuse(format!(
+                "an item of {} bytes: an item has at most {ITEM_LIMIT}",
+                item.len()
+            ));
+        }
+        self.u32(item.len() as u32);
+        self.bytes.extend(item);
+    }
+
+    pub(crate) fn items<I: AsRef<[u8]>>(&mut self, items: &[I]) {
+        self.u32(items.len() as u32);
+        for item in items {
+            self.item(item.as_ref());
+        }
+    }
+
+    pub(crate) fn option<T>(&mut self, value: Option<T>, push: impl FnOnce(&mut Parts, T)) {
+        self.byte(value.is_some().into());
+        if let Some(value) = value {
+            push(self, value);
+        }
+    }
+
+    pub(crate) fn place(&mut self, place: Place) {
+        self.bytes.extend(place.as_bytes());
+    }
+
+    pub(crate) fn size(&mut self, size: Size) {
+        match size {
+            Size::Infinity => self.byte(0),
             Size::Bytes(bytes) => {
-                parts.push(1);
-                parts.extend(bytes.to_be_bytes());
+                self.byte(1);
+                self.u64(bytes);
             }
             Size::Wrap { bytes, files } => {
-                parts.push(2);
-                parts.extend(bytes.to_be_bytes());
-                parts.extend(files.to_be_bytes());
+                self.byte(2);
+                self.u64(bytes);
+                self.u32(files);
             }
         }
     }
-}
 
-/// Adds the frame of a request, whose length is known once its parts are there.
-pub(crate) fn push_request(
-    frames: &mut Vec<u8>,
-    tag: u32,
-    number: u8,
-    parts: impl FnOnce(&mut Vec<u8>),
-) {
-    let start = frames.len();
-    frames.extend([0; 4]);
-    frames.extend(tag.to_be_bytes());
-    frames.push(number);
-    parts(frames);
-    let length = (frames.len() - start - 4) as u32;
-    frames[start..start + 4].copy_from_slice(&length.to_be_bytes());
-}
-
-pub(crate) fn push_log(parts: &mut Vec<u8>, log: &Log) {
-    parts.extend(log.client.to_be_bytes());
-    push_text(parts, &log.name);
-}
-
-/// A name or a base. One that is longer than any may be is cut, and refused by the server.
-pub(crate) fn push_text(parts: &mut Vec<u8>, text: &str) {
-    let text = &text.as_bytes()[..text.len().min(255)];
-    parts.push(text.len() as u8);
-    parts.extend(text);
-}
-
-pub(crate) fn push_bytes(parts: &mut Vec<u8>, bytes: &[u8]) {
-    parts.extend((bytes.len() as u32).to_be_bytes());
-    parts.extend(bytes);
-}
-
-pub(crate) fn push_items<I: AsRef<[u8]>>(parts: &mut Vec<u8>, items: &[I]) {
-    parts.extend((items.len() as u32).to_be_bytes());
-    for item in items {
-        push_bytes(parts, item.as_ref());
+    fn refuse(&mut self, why: String) {
+        self.fault.get_or_insert(why);
     }
-}
-
-pub(crate) fn push_option<T>(
-    parts: &mut Vec<u8>,
-    value: Option<T>,
-    push: impl FnOnce(&mut Vec<u8>, T),
-) {
-    parts.push(value.is_some().into());
-    if let Some(value) = value {
-        push(parts, value);
-    }
-}
-
-pub(crate) fn push_place(parts: &mut Vec<u8>, place: Option<Place>) {
-    push_option(parts, place, |parts, place| parts.extend(place.0));
 }

@@ -175,7 +175,7 @@ impl<'a> Reader<'a> {
     }
 
     fn place(&mut self) -> Option<Place> {
-        self.array().map(Place)
+        self.array().map(Place::from_bytes)
     }
 
     fn items(&mut self) -> Option<Vec<Vec<u8>>> {

@@ -1,279 +1,263 @@
-//! A server, and its calls.
+//! A server: how it is started, sent requests and stopped.
 
-use crate::reading::Reader;
-use crate::{parts, Answer, Error, Info, Items, Log, Notice, Options, Place, Reply, Size};
-use std::collections::VecDeque;
-use std::io::{self, BufReader, Read, Write};
+use crate::parts::Parts;
+use crate::process::Process;
+use crate::program::locked;
+use crate::{Ended, Error, Log, Reply};
+use std::io::{self, ErrorKind, Write};
 use std::path::Path;
-use std::process::{Child, ChildStdin, ChildStdout, Command, ExitStatus, Stdio};
+use std::process::{ChildStdin, Command};
+use std::sync::Mutex;
+use std::thread;
+use std::time::{Duration, Instant};
 
-const VERSION: u16 = 2;
+const TRY_AGAIN: Duration = Duration::from_millis(50);
 
-/// How many bytes are read at a time.
-const READ_BYTES: usize = 65_536;
+/// How a server is started. The default has 16 blocks, and no limits of time.
+#[derive(Clone, Copy, Debug)]
+pub struct Settings {
+    pub blocks: u32,
+    pub unsynced_rolls: bool,
+    /// How long a folder is waited for that another program has, as one does that was killed and still writes.
+    pub wait: Duration,
+    /// How long a call may take.
+    pub timeout: Option<Duration>,
+}
+
+impl Default for Settings {
+    fn default() -> Settings {
+        Settings {
+            blocks: 16,
+            unsynced_rolls: false,
+            wait: Duration::ZERO,
+            timeout: None,
+        }
+    }
+}
+
+/// What is to be sent.
+struct Sending {
+    /// None once the input is ended.
+    input: Option<ChildStdin>,
+    frames: Vec<u8>,
+    tag: u32,
+}
 
 /// A server over a folder, which has been started as a program.
 ///
-/// One that is dropped is not waited for; `stop` tells how it ended.
+/// Threads may share it: their calls are under way together. One that is dropped has its input ended, and is not waited for;
+/// `stop` reports how it ended.
 pub struct Server {
-    program: Child,
-    input: Option<ChildStdin>,
-    output: BufReader<ChildStdout>,
-    tag: u32,
-    /// The frames that are to be written.
-    frames: Vec<u8>,
-    /// The text of the frame that was read last.
-    text: Vec<u8>,
-    answers: VecDeque<(u32, Reply)>,
-    notices: VecDeque<Notice>,
+    pub(crate) process: Process,
+    sending: Mutex<Sending>,
+    timeout: Mutex<Option<Duration>>,
+    frame_limit: u32,
 }
 
 impl Server {
     /// Starts `program serve --folder folder`, and asks it for its version.
     pub fn start(program: impl AsRef<Path>, folder: impl AsRef<Path>) -> Result<Server, Error> {
-        let mut program = Command::new(program.as_ref())
-            .arg("serve")
-            .arg("--folder")
-            .arg(folder.as_ref())
-            .stdin(Stdio::piped())
-            .stdout(Stdio::piped())
-            .spawn()?;
-        let input = program.stdin.take();
-        let output = program.stdout.take().ok_or(Error::Gone)?;
+        Server::start_with(program, folder, &Settings::default())
+    }
+
+    /// Starts a server as the settings have it.
+    pub fn start_with(
+        program: impl AsRef<Path>,
+        folder: impl AsRef<Path>,
+        settings: &Settings,
+    ) -> Result<Server, Error> {
+        let until = Instant::now() + settings.wait;
+        loop {
+            match Server::start_once(program.as_ref(), folder.as_ref(), settings) {
+                // The status of a folder that is in use, or not there.
+                Err(Error::Gone(ended))
+                    if ended.status.and_then(|it| it.code()) == Some(1)
+                        && Instant::now() < until =>
+                {
+                    thread::sleep(TRY_AGAIN)
+                }
+                started => return started,
+            }
+        }
+    }
+
+    fn start_once(program: &Path, folder: &Path, settings: &Settings) -> Result<Server, Error> {
+        let mut command = Command::new(program);
+        command.arg("serve").arg("--folder").arg(folder);
+        command.arg("--blocks").arg(settings.blocks.to_string());
+        if settings.unsynced_rolls {
+            command.arg("--unsynced-rolls");
+        }
+        let (process, input) = Process::start(command)?;
         let mut server = Server {
-            program,
-            input,
-            output: BufReader::with_capacity(READ_BYTES, output),
-            tag: 0,
-            frames: Vec::new(),
-            text: Vec::new(),
-            answers: VecDeque::new(),
-            notices: VecDeque::new(),
+            process,
+            sending: Mutex::new(Sending {
+                input: Some(input),
+                frames: Vec::new(),
+                tag: 0,
+            }),
+            timeout: Mutex::new(settings.timeout),
+            frame_limit: u32::MAX,
         };
-        server.hello()?;
+        let Reply::Hello { frame_limit, .. } = server.hello()? else {
+            return Err(Error::Form);
+        };
+        server.frame_limit = frame_limit;
+        server.process.program.pass_on();
         Ok(server)
     }
 
-    /// Ends the input of the server, which closes its logs, and waits for its end.
-    pub fn stop(mut self) -> io::Result<ExitStatus> {
-        let _ = self.flush();
-        self.input = None;
-        io::copy(&mut self.output, &mut io::sink())?;
-        self.program.wait()
-    }
-
-    /// Ends the server as a stop of the machine would.
-    pub fn kill(mut self) -> io::Result<ExitStatus> {
-        self.program.kill()?;
-        self.program.wait()
-    }
-
-    /// Opens a log. What it says is `Opened` or `Repaired`.
-    pub fn open(&mut self, log: &Log, options: &Options) -> Result<Reply, Error> {
-        self.call(1, log, |parts| options.push(parts))
-    }
-
-    /// Logs items in one call.
-    pub fn log<I: AsRef<[u8]>>(&mut self, log: &Log, items: &[I]) -> Result<Reply, Error> {
-        let tag = self.send_log(log, items);
-        self.answer(tag)
-    }
-
-    /// Logs each item by a call of its own, with up to so many calls under way.
-    pub fn log_many<I: AsRef<[u8]>>(
-        &mut self,
-        log: &Log,
-        items: impl IntoIterator<Item = I>,
-        ahead: usize,
-    ) -> Result<(), Error> {
-        let mut tags = VecDeque::new();
-        for item in items {
-            if tags.len() >= ahead.max(1) {
-                self.take_answers(&mut tags, ahead / 2)?;
-            }
-            tags.push_back(self.send_log(log, &[item]));
-        }
-        self.take_answers(&mut tags, 0)
-    }
-
-    /// Sends items and waits for no answer.
-    pub fn alog<I: AsRef<[u8]>>(&mut self, log: &Log, items: &[I]) -> Result<(), Error> {
-        parts::push_request(&mut self.frames, 0, 3, |parts| {
-            parts::push_log(parts, log);
-            parts::push_items(parts, items);
-        });
-        self.flush()
-    }
-
-    /// At most so many items from a place on. What it says is `Items`, or `Eof` at the end.
-    pub fn chunk(&mut self, log: &Log, from: Option<Place>, most: u64) -> Result<Reply, Error> {
-        self.call(4, log, |parts| {
-            parts::push_place(parts, from);
-            parts.extend(most.to_be_bytes());
-        })
-    }
-
-    /// The place of the first item of the file that is so many files on.
-    pub fn step(&mut self, log: &Log, from: Option<Place>, by: i32) -> Result<Reply, Error> {
-        self.call(5, log, |parts| {
-            parts::push_place(parts, from);
-            parts.extend(by.to_be_bytes());
-        })
-    }
-
-    /// The items of a log from the first one on.
-    pub fn items<'a>(&'a mut self, log: &'a Log) -> Items<'a> {
-        Items::new(self, log)
-    }
-
-    pub fn truncate(&mut self, log: &Log, head: Option<&[u8]>) -> Result<Reply, Error> {
-        self.call(6, log, |parts| {
-            parts::push_option(parts, head, parts::push_bytes)
-        })
-    }
-
-    pub fn reopen(&mut self, log: &Log, base: &str, head: Option<&[u8]>) -> Result<Reply, Error> {
-        self.call(7, log, |parts| {
-            parts::push_text(parts, base);
-            parts::push_option(parts, head, parts::push_bytes);
-        })
-    }
-
-    pub fn next_file(&mut self, log: &Log) -> Result<Reply, Error> {
-        self.call(8, log, |_| {})
-    }
-
-    pub fn change_size(&mut self, log: &Log, size: Size) -> Result<Reply, Error> {
-        self.call(9, log, |parts| size.push(parts))
-    }
-
-    /// What was logged is on the device once this has answered.
-    pub fn sync(&mut self, log: &Log) -> Result<Reply, Error> {
-        self.call(10, log, |_| {})
-    }
-
-    /// Has the calls of other clients suspended, or refused, until `unblock`.
-    pub fn block(&mut self, log: &Log, suspends: bool) -> Result<Reply, Error> {
-        self.call(11, log, |parts| parts.push(suspends.into()))
-    }
-
-    pub fn unblock(&mut self, log: &Log) -> Result<Reply, Error> {
-        self.call(12, log, |_| {})
-    }
-
-    pub fn info(&mut self, log: &Log) -> Result<Info, Error> {
-        match self.call(13, log, |_| {})? {
-            Reply::Info(info) => Ok(*info),
-            _ => Err(Error::Form),
+    /// Ends the input of the server, which closes its logs, and waits for its end. It is an error if its status is not 0: what
+    /// it still had to write may be lost.
+    pub fn stop(&self) -> Result<(), Error> {
+        let flushed = self.flush();
+        locked(&self.sending).input = None;
+        let ended = self.process.wait(self.deadline())?;
+        match ended.status {
+            Some(status) if status.success() => flushed,
+            _ => Err(Error::Gone(ended)),
         }
     }
 
-    pub fn close(&mut self, log: &Log) -> Result<Reply, Error> {
-        self.call(14, log, |_| {})
+    /// Ends the server as a stop of the machine would, as where it does not answer, and waits for its end.
+    pub fn kill(&self) -> Result<Ended, Error> {
+        self.process.program.kill()?;
+        self.process.wait(None)
     }
 
-    /// Gives up all that a client owns.
-    pub fn exit(&mut self, client: u32) -> Result<Reply, Error> {
-        self.ask(15, |parts| parts.extend(client.to_be_bytes()))
+    /// The number of the server's process.
+    pub fn id(&self) -> u32 {
+        self.process.program.id()
     }
 
-    /// Writes the oldest block that waits.
-    pub fn flush_block(&mut self) -> Result<Reply, Error> {
-        self.ask(16, |_| {})
-    }
-
-    /// Writes all that waits.
-    pub fn flush_all(&mut self) -> Result<Reply, Error> {
-        self.ask(17, |_| {})
-    }
-
-    /// What the server says of itself. It changes nothing.
-    pub fn hello(&mut self) -> Result<Reply, Error> {
-        self.ask(0, |parts| parts.extend(VERSION.to_be_bytes()))
-    }
-
-    /// Takes the notices of the calls that were answered. One more question is asked, before whose answer all of them are read.
-    pub fn notices(&mut self) -> Result<Vec<Notice>, Error> {
-        self.hello()?;
-        Ok(self.notices.drain(..).collect())
+    /// How long each call may take from now on.
+    pub fn set_timeout(&self, timeout: Option<Duration>) {
+        *locked(&self.timeout) = timeout;
     }
 
     /// Adds a log call to what is to be written, and returns its tag, for `answer`.
-    pub fn send_log<I: AsRef<[u8]>>(&mut self, log: &Log, items: &[I]) -> u32 {
-        self.send(2, log, |parts| parts::push_items(parts, items))
+    pub fn send_log<I: AsRef<[u8]>>(&self, log: &Log, items: &[I]) -> u32 {
+        self.request(2, |parts| {
+            parts.log(log);
+            parts.items(items);
+        })
     }
 
     /// Adds any call on a log to what is to be written: its number, and its parts after the log's name.
-    pub fn send(&mut self, number: u8, log: &Log, rest: impl FnOnce(&mut Vec<u8>)) -> u32 {
+    pub fn send(&self, number: u8, log: &Log, rest: impl FnOnce(&mut Vec<u8>)) -> u32 {
         self.request(number, |parts| {
-            parts::push_log(parts, log);
-            rest(parts);
+            parts.log(log);
+            rest(parts.bytes());
         })
     }
 
     /// Writes what is to be written.
-    pub fn flush(&mut self) -> Result<(), Error> {
-        let input = self.input.as_mut().ok_or(Error::Gone)?;
-        input.write_all(&self.frames).map_err(|_| Error::Gone)?;
-        self.frames.clear();
+    pub fn flush(&self) -> Result<(), Error> {
+        let deadline = self.deadline();
+        let sending = &mut *locked(&self.sending);
+        let Some(input) = sending.input.as_mut() else {
+            return Err(self.gone());
+        };
+        let mut at = 0;
+        let written = self.write(input, &sending.frames, &mut at, deadline);
+        sending.frames.drain(..at);
+        written.map_err(|error| match error.kind() {
+            ErrorKind::TimedOut => Error::TimedOut,
+            _ => self.gone(),
+        })
+    }
+
+    fn write(
+        &self,
+        input: &mut ChildStdin,
+        frames: &[u8],
+        at: &mut usize,
+        deadline: Option<Instant>,
+    ) -> io::Result<()> {
+        while *at < frames.len() {
+            match input.write(&frames[*at..]) {
+                Ok(count) => *at += count,
+                Err(error) if error.kind() == ErrorKind::Interrupted => {}
+                Err(error) if error.kind() == ErrorKind::WouldBlock => {
+                    self.process.make_room(input, deadline)?;
+                }
+                Err(error) => return Err(error),
+            }
+        }
         Ok(())
     }
 
     /// Waits for the answer of a call that was sent.
-    pub fn answer(&mut self, tag: u32) -> Result<Reply, Error> {
-        self.flush()?;
-        loop {
-            if let Some(at) = self.answers.iter().position(|(its, _)| *its == tag) {
-                let (_, reply) = self.answers.remove(at).ok_or(Error::Form)?;
-                return reply.into_result();
-            }
-            match self.receive()? {
-                Answer::Reply(its, reply) => self.answers.push_back((its, reply)),
-                Answer::Notice(notice) => self.notices.push_back(notice),
-            }
+    pub fn answer(&self, tag: u32) -> Result<Reply, Error> {
+        let deadline = self.deadline();
+        // A server that has ended may have answered before.
+        match self.flush() {
+            Err(Error::TimedOut) => self.process.answer(tag, Some(Instant::now())),
+            Ok(()) | Err(_) => self.process.answer(tag, deadline),
         }
     }
 
-    /// Takes the answers of calls until so many are under way.
-    fn take_answers(&mut self, tags: &mut VecDeque<u32>, left: usize) -> Result<(), Error> {
-        while tags.len() > left {
-            let Some(tag) = tags.pop_front() else { break };
-            self.answer(tag)?;
-        }
-        Ok(())
+    fn deadline(&self) -> Option<Instant> {
+        locked(&self.timeout).and_then(|limit| Instant::now().checked_add(limit))
     }
 
-    fn call(
-        &mut self,
+    /// The end of the server, for a call that it did not take.
+    fn gone(&self) -> Error {
+        match self.process.wait(self.deadline()) {
+            Ok(ended) => Error::Gone(Ended {
+                may_be_done: false,
+                ..ended
+            }),
+            Err(error) => error,
+        }
+    }
+
+    /// Writes a request of which no answer comes.
+    pub(crate) fn send_unanswered(
+        &self,
+        number: u8,
+        rest: impl FnOnce(&mut Parts),
+    ) -> Result<(), Error> {
+        let mut parts = Parts::request(0, number);
+        rest(&mut parts);
+        let frame = parts.frame(self.frame_limit)?;
+        locked(&self.sending).frames.extend(frame);
+        self.flush()
+    }
+
+    pub(crate) fn call(
+        &self,
         number: u8,
         log: &Log,
-        rest: impl FnOnce(&mut Vec<u8>),
+        rest: impl FnOnce(&mut Parts),
     ) -> Result<Reply, Error> {
-        let tag = self.send(number, log, rest);
-        self.answer(tag)
+        self.ask(number, |parts| {
+            parts.log(log);
+            rest(parts);
+        })
     }
 
-    fn ask(&mut self, number: u8, parts: impl FnOnce(&mut Vec<u8>)) -> Result<Reply, Error> {
-        let tag = self.request(number, parts);
-        self.answer(tag)
+    pub(crate) fn ask(&self, number: u8, parts: impl FnOnce(&mut Parts)) -> Result<Reply, Error> {
+        self.answer(self.request(number, parts))
     }
 
-    fn request(&mut self, number: u8, parts: impl FnOnce(&mut Vec<u8>)) -> u32 {
-        self.tag = self.tag.checked_add(1).unwrap_or(1);
-        parts::push_request(&mut self.frames, self.tag, number, parts);
-        self.tag
-    }
-
-    /// Waits for the next answer or notice.
-    fn receive(&mut self) -> Result<Answer, Error> {
-        let mut length = [0; 4];
-        self.output
-            .read_exact(&mut length)
-            .map_err(|_| Error::Gone)?;
-        self.text.resize(u32::from_be_bytes(length) as usize, 0);
-        self.output
-            .read_exact(&mut self.text)
-            .map_err(|_| Error::Gone)?;
-        Reader::new(&self.text).answer().ok_or(Error::Form)
+    /// Adds a request to what is to be written. One that no server could read has its answer at once.
+    fn request(&self, number: u8, rest: impl FnOnce(&mut Parts)) -> u32 {
+        let mut sending = locked(&self.sending);
+        sending.tag = sending.tag.checked_add(1).unwrap_or(1);
+        let tag = sending.tag;
+        let mut parts = Parts::request(tag, number);
+        rest(&mut parts);
+        match (parts.frame(self.frame_limit), self.process.ended()) {
+            (Ok(frame), None) => {
+                self.process.await_answer(tag, None);
+                sending.frames.extend(frame);
+            }
+            (Ok(_), Some(ended)) => self
+                .process
+                .await_answer(tag, Some(Err(Error::Gone(ended)))),
+            (Err(error), _) => self.process.await_answer(tag, Some(Err(error))),
+        }
+        tag
     }
 }

@@ -1,0 +1,72 @@
+"""What keeps a call from its answer."""
+from __future__ import annotations
+
+from typing import Optional, Tuple
+
+REFUSALS = (
+    "", "bad_arg", "no_such_log", "name_already_open", "arg_mismatch", "size_mismatch",
+    "open_read_write", "open_read_only", "file_in_use", "no_file", "not_a_log_file",
+    "invalid_index_file", "need_repair", "read_only_mode", "full", "blocked_log", "not_blocked",
+    "not_blocked_by_pid", "halt_log", "new_size_too_small", "same_file_name",
+    "stale_continuation", "end_of_log", "corrupt_log_file", "device_fault", "exhausted",
+)
+
+
+class Error(Exception):
+    """What keeps a call from its answer."""
+
+
+class Invalid(Error, ValueError):
+    """No server could read the call, so the client has not sent it: a name that no log can have, an
+    item or a request that is too long, a number that is out of range."""
+
+
+class Gone(Error):
+    """The server has ended: with `status` (negative: the signal that killed it; None: unknown), and
+    `words` are its last ones on standard error.
+
+    `may_be_done` says whether the call was sent, and so may have been done or not; a call of which it
+    is false was not done.
+    """
+
+    def __init__(self, status: Optional[int], words: str, may_be_done: bool = False) -> None:
+        self.status = status
+        self.words = words
+        self.may_be_done = may_be_done
+        how = "" if status is None else f" with status {status}"
+        super().__init__(f"the server has ended{how}" + (f": {words}" if words else ""))
+
+
+class NotStarted(Gone):
+    """The server did not start: `status` is None if there is no such program; `words` say why."""
+
+
+class TimedOut(Error, TimeoutError):
+    """The server did not answer in time. The call may yet be done."""
+
+
+class NoMemory(Error):
+    """The server was refused memory, and did nothing."""
+
+
+class Suspended(Error):
+    """A block keeps the call off, and too many calls wait already."""
+
+
+class BadFrame(Error):
+    """The server could not read a request; `place` is where its first wrong part begins."""
+
+    def __init__(self, place: int) -> None:
+        super().__init__(f"no request from byte {place} on")
+        self.place = place
+
+
+class Refused(Error):
+    """The server refused a call; `number` and `name` say why, and `parts` what they speak of."""
+
+    def __init__(self, number: int, parts: Tuple[object, ...]) -> None:
+        self.number = number
+        self.name = REFUSALS[number]
+        self.parts = parts
+        words = (f"E{number}", self.name) + tuple(str(part) for part in parts)
+        super().__init__(" ".join(words))
