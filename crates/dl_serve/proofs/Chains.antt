@@ -1,5 +1,7 @@
 -- Steps one after another, and one more.
 use Rattle.std.proofs.Common.{◌≡◌, ℕ, zero, suc, List, [], ◌∷◌, ◌++◌, drop, length, arith, replicate, refl, sym, ap, subst, ◌∙◌, append_assoc, append-nil}
+use Rattle.std.specs.List.{flat_map}
+use Rattle.std.proofs.lemmas.List.{flat_map_more}
 use Rattle.dl_types.specs.declared.reply.Outcome.{Outcome}
 use Rattle.dl_disk.specs.Disk.{DiskState}
 use Rattle.dl_hub.specs.View.{HubView}
@@ -38,6 +40,12 @@ module _ {X S : Type 0} (Step : X → S → S → List ℕ → Type 0) where
     chain_both xs ys first.0 mid new first.2 frames first.4 then,
     ap (λ (l : List ℕ). l ++ frames) first.5 ∙ append_assoc first.1 first.2 frames,
   )
+
+  -- the steps of one batch more
+  pub chain_batch : {B : Type 0} (steps : B → List X) (batches : List B) (batch : B) (old mid new : S) (done frames : List ℕ) → Chain Step (flat_map steps batches) old mid done → Chain Step (steps batch) mid new frames
+      → Chain Step (flat_map steps (batches ++ batch ∷ [])) old new (done ++ frames)
+  chain_batch steps batches batch old mid new done frames before now =
+      subst (λ (xs : List X). Chain Step xs old new (done ++ frames)) (flat_map_more steps [] batches batch) (chain_both (flat_map steps batches) (steps batch) old mid new done frames before now)
 
 -- one more of the same
 pub replicate_more : {X : Type 0} (n : ℕ) (x : X) → replicate n x ++ x ∷ [] ≡ replicate (suc n) x

@@ -1,5 +1,6 @@
 pub mod Fronts
 pub mod Chains
+pub mod Arranging
 pub mod Streams
 pub mod Flushes
 pub mod Outs

@@ -3,11 +3,12 @@ use Rattle.std.proofs.Common.{◌≡◌, ◌≤◌, ◌<◌, ◌+◌, ℕ, List,
 use Rattle.std.specs.Int.{w32, from_be_bytes}
 use Rattle.std.specs.List.{flat_map}
 use Rattle.std.specs.Io.KnownBytes.{Appends, Consumes, IsAtEnd}
-use Rattle.std.proofs.lemmas.List.{take-append-le, length-append, length-drop, drop-drop}
+use Rattle.std.proofs.lemmas.List.{take-append-le, length-append, length-drop, drop-drop, flat_map_more}
 use Rattle.std.proofs.lemmas.List.Concat.{flat_map-append, flat_map-cons}
 use Rattle.dl_wire.specs.declared.limits.TheConstants.{FRAME_LIMIT}
 use Rattle.dl_wire.specs.Answer.{frame_text}
 use Rattle.dl_serve.specs.Frames.{IsLong, HasFrames}
+use Rattle.dl_serve.specs.Serve.{joined}
 
 -- the frames of these texts
 abbrev pub frames_of : List (List ℕ) → List ℕ
@@ -18,6 +19,11 @@ pub frames_then : (texts more : List (List ℕ)) (old new : List ℕ) → old �
 frames_then texts more old new is =
     ap (λ (l : List ℕ). frames_of texts ++ l) is ∙ sym (append_assoc (frames_of texts) (frames_of more) new)
     ∙ ap (λ (l : List ℕ). l ++ new) (sym (flat_map-append frame_text texts more))
+
+-- the frames of one batch more
+pub batches_then : (batches : List (List (List ℕ))) (batch : List (List ℕ)) (old new : List ℕ) → old ≡ frames_of batch ++ new → frames_of (joined batches) ++ old ≡ frames_of (joined (batches ++ batch ∷ [])) ++ new
+batches_then batches batch old new is =
+    frames_then (joined batches) batch old new is ∙ ap (λ (texts : List (List ℕ)). frames_of texts ++ new) (flat_map_more (λ (b : List (List ℕ)). b) [] batches batch)
 
 -- one frame
 pub frames_one : (text bytes rest : List ℕ) → bytes ≡ frame_text text ++ rest → bytes ≡ frames_of (text ∷ []) ++ rest

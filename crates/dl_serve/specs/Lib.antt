@@ -1,6 +1,7 @@
 pub mod Event
 pub mod Frames
 pub mod Left
+pub mod Arranged
 pub mod Asked
 pub mod Serve
 pub mod Session

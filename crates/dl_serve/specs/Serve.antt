@@ -1,6 +1,7 @@
 -- A stream of frames, and what is answered.
 use Rattle.std.specs.Prelude.{◌≡◌, ◌==◌, ◌⊎◌, ◌<◌, ◌+◌, ℕ, List, [], ◌∷◌, ◌++◌, All, Bool, true, false, Option, Err, ⊤, length, replicate, if◌then◌else◌}
 use Rattle.std.specs.Io.KnownBytes.{Appends}
+use Rattle.std.specs.List.{flat_map}
 use Rattle.dl_types.specs.declared.event.Event.TheVariants as event
 use Rattle.dl_disk.specs.Disk.{DiskState}
 use Rattle.dl_hub.specs.declared.drained.TheConstants.{TRIES}
@@ -14,12 +15,14 @@ use Rattle.dl_wire.specs.Answer.{bad_text, welcome_text, frame_text}
 use Rattle.dl_wire.specs.Decode.{request_in}
 use Rattle.dl_wire.specs.Fits.{IsRequest}
 use Rattle.dl_wire.specs.Request.{request_text}
+use Rattle.dl_serve.specs.declared.held.HeldSync.{HeldSync}
 use Rattle.dl_serve.specs.declared.left.Left.{Left}
 use Rattle.dl_serve.specs.declared.stream.Ended.{Ended}
 use Rattle.dl_serve.specs.declared.stream.Ended.TheVariants as ended
 use Rattle.dl_serve.specs.declared.stream.Served.{Served}
 use Rattle.dl_serve.specs.declared.stream.Stop.{Stop}
 use Rattle.dl_serve.specs.declared.stream.Stop.TheVariants as stop
+use Rattle.dl_serve.specs.Arranged.{Moment, served_at, held_after, all_held, AreRequests, arranged}
 use Rattle.dl_serve.specs.Asked.{Stage, Chain, IsAsked}
 use Rattle.dl_serve.specs.Frames.{IsLong, IsPartial, HasFrames, tag_of}
 use Rattle.dl_serve.specs.Left.{is_nothing, left_of}
@@ -58,6 +61,12 @@ module _ {D Z : Type 0} (state : D → DiskState) where
       ((r : Request Z) × IsRequest r × (text ≡ request_text r) × IsDone r.tag r.ask old new frames)
       ⊎ ((place : ℕ) × (request_in {Z = Z} text ≡ Err place) × (new ≡ old) × (frames ≡ frame_text (bad_text (tag_of text) place)))
 
+  -- a text came at its moment: what is served then, and what is held after it
+  pub record IsTakenUp (moment : Moment) (text : List ℕ) (before after : List HeldSync) (old new : Stage D Z) (frames : List ℕ) : Type 0 where
+    pub served : Chain IsServed (served_at moment text (all_held Z before)) old new frames
+    pub held : all_held Z after ≡ held_after moment text (all_held Z before)
+    pub requests : AreRequests Z after
+
   -- all that waits or lingers is flushed, and again while something is left, but so often at most; this is what the last time has left
   pub record IsWrittenOut (left : Left) (old new : Stage D Z) (frames : List ℕ) : Type 0 where
     pub before : List Left
@@ -82,27 +91,31 @@ IsStopped stop.Partial rest = IsPartial rest
 IsStopped stop.Long rest = IsLong rest
 IsStopped stop.Full rest = ⊤
 
--- the frames of a stream were served, and their answers are written. What is to be written now tells how it ended
+-- the texts of batches, one batch after another
+abbrev pub joined : List (List (List ℕ)) → List (List ℕ)
+joined batches = flat_map (λ (batch : List (List ℕ)). batch) batches
+
+-- the frames of a stream were served, batch by batch, and their answers are written. What is to be written now tells how it ended
 pub record IsTaken {D Z : Type 0} (state : D → DiskState) (how : Ended) (stream : Option (List ℕ)) (old new : Stage D Z) (written after : Option (List ℕ)) (told : List ℕ) : Type 0 where
-  pub texts : List (List ℕ)
+  pub batches : List (List (List ℕ))
   pub rest : List ℕ
   pub answers : List ℕ
-  pub framed : HasFrames stream texts rest
-  pub served : Chain (IsServed state) texts old new answers
+  pub framed : HasFrames stream (joined batches) rest
+  pub served : Chain (IsServed state) (flat_map (arranged Z) batches) old new answers
   pub ended : IsRest how rest told
   pub sent : Appends written after answers
 
--- a stream was served: each of its frames in order, and then its end. What was written are the answers in this order
+-- a stream was served: its frames in the batches in which they came, one batch after another, the frames of a batch as they are arranged, and then its end. What was written are the answers in this order
 pub record Serves {D : Type 0} (state : D → DiskState) (Z : Type 0) (served : Served) (stream : Option (List ℕ)) (old new : HubView D) (written after : Option (List ℕ)) : Type 0 where
-  pub texts : List (List ℕ)
+  pub batches : List (List (List ℕ))
   pub rest : List ℕ
   pub mid : Stage D Z
   pub last : Stage D Z
   pub answers : List ℕ
   pub told : List ℕ
   pub farewell : List ℕ
-  pub framed : HasFrames stream texts rest
-  pub done : Chain (IsServed state) texts (first_stage old) mid answers
+  pub framed : HasFrames stream (joined batches) rest
+  pub done : Chain (IsServed state) (flat_map (arranged Z) batches) (first_stage old) mid answers
   pub ended : IsRest served.ended rest told
   pub left : Leaves state served.left mid last farewell
   pub hub : last.hub ≡ new

@@ -5,10 +5,13 @@ mod asked;
 mod event;
 mod fault;
 mod frames;
+mod held;
 mod leave;
 mod left;
 mod session;
 mod stream;
+mod syncs;
+mod texts;
 mod waiting;
 
 pub use fault::ServeFault;

@@ -1,22 +1,23 @@
 // A stream from its first frame to its last.
-ghost use Rattle.std.specs.Prelude.{◌≡◌, ◌++◌, ◌≤◌, ℕ, List, [], false, true, OnOk, IfOk, drop, length};
+ghost use Rattle.std.specs.Prelude.{◌≡◌, ◌++◌, ◌≤◌, ℕ, List, [], false, true, None, OnOk, IfOk, drop, length};
 ghost use Rattle.std.specs.List.{flat_map};
 ghost use Rattle.std.specs.Io.KnownBytes.{Appends, Consumes, IsAtEnd};
 ghost use Rattle.dl_hub.specs.Written.{IsWritten};
-ghost use Rattle.dl_wire.specs.declared.limits.TheConstants.{FRAME_LIMIT};
 ghost use Rattle.dl_wire.specs.Answer.{frame_text};
+ghost use Rattle.dl_serve.specs.Arranged.{all_held, AreRequests, arranged, awaited};
 ghost use Rattle.dl_serve.specs.Asked.{Chain};
 ghost use Rattle.dl_serve.specs.Left.{is_nothing};
-ghost use Rattle.dl_serve.specs.Serve.{welcome_frame, IsDone, IsServed, IsStopped, IsTaken, Serves};
+ghost use Rattle.dl_serve.specs.Serve.{IsServed, IsStopped, IsTaken, Serves};
 ghost use Rattle.dl_serve.specs.Session.{stage_of};
 
 use crate::fault::ServeFault;
-use crate::frames::{Front, LENGTH_BYTES, front_of, tag_of};
+use crate::frames::{Front, LENGTH_BYTES, front_of};
+use crate::held::HeldSync;
 use crate::left::Left;
 use crate::session::Session;
 use dl_disk::Disk;
 use dl_hub::Hub;
-use dl_wire::{Ask, DecodeFault, Request, decode, push_bad, push_welcome};
+use dl_wire::push_bad;
 use std::alloc::Allocator;
 use std::io::{self, Read, Write};
 
@@ -58,9 +59,10 @@ pub enum Stop {
 /// input ends or a frame is too long. Then the clients leave, and what waits is written; if the device fails at that it is
 /// tried again a few times, and what is left after the last try is told.
 ///
-/// Requests are done in their order, whatever pieces the input comes in. Answers are written once no whole frame is left of
-/// what was read, or if they have more than a mebibyte, and nothing is read meanwhile. If the input or the output
-/// fails, the clients leave all the same.
+/// A sync is done once no whole frame is left of what was read, or before its client calls again, so that syncs which come
+/// together find all that came with them. All else is done in its order. Answers are written once no whole frame is left of
+/// what was read, or if they have more than a mebibyte, and nothing is read meanwhile. If the input or the output fails, the
+/// clients leave all the same.
 pub fn serve<R: Read, W: Write, D: Disk + Drop, A: Allocator + Copy>(
     alloc: A,
     input: &mut R,
@@ -124,7 +126,7 @@ impl<A: Allocator + Copy> Session<A> {
     ) -> Result<Stop, ServeFault>
         requires { self.old.frames.items ≡ [] }
         ensures served { IfOk result (λ stop. (texts : List (List ℕ)) × (frames : List ℕ) × (unread.old.items ≡ flat_map frame_text texts ++ unread.new.items)
-            × Chain (IsServed D.state) texts (stage_of hub.old self.old) (stage_of hub.new self.new) frames × Appends (W.contents output.old) (W.contents output.new) frames
+            × Chain (IsServed D.state) (arranged A texts) (stage_of hub.old self.old) (stage_of hub.new self.new) frames × Appends (W.contents output.old) (W.contents output.new) frames
             × IsStopped stop unread.new.items) }
         ensures sent { OnOk result (self.new.frames.items ≡ []) }
     {
@@ -134,14 +136,35 @@ impl<A: Allocator + Copy> Session<A> {
         Ok(stop)
     }
 
-    // Serves the whole frames at the front of some bytes, and tells how many bytes they have.
+    // Serves the whole frames at the front of some bytes, and returns how many bytes they have. A sync waits for what came with
+    // it, but not for a later call of its client.
     fn serve_frames<D: Disk + Drop>(
         &mut self,
         bytes: &[u8],
         hub: &mut Hub<D, A>,
     ) -> Result<(usize, Stop), ServeFault>
         ensures served { IfOk result (λ r. (texts : List (List ℕ)) × (frames : List ℕ) × (bytes.now ≡ flat_map frame_text texts ++ drop r.0 bytes.now)
-            × Chain (IsServed D.state) texts (stage_of hub.old self.old) (stage_of hub.new self.new) frames × (self.new.frames.items ≡ self.old.frames.items ++ frames)
+            × Chain (IsServed D.state) (arranged A texts) (stage_of hub.old self.old) (stage_of hub.new self.new) frames × (self.new.frames.items ≡ self.old.frames.items ++ frames)
+            × IsStopped r.1 (drop r.0 bytes.now)) }
+        ensures within { IfOk result (λ r. r.0 ≤ length bytes.now) }
+    {
+        let mut held = Vec::new(self.alloc);
+        let taken = self.take_frames(bytes, &mut held, hub)?;
+        self.sync_held(None, &mut held, hub)?;
+        Ok(taken)
+    }
+
+    // Serves the whole frames at the front of some bytes but for the syncs that it holds, and returns how many bytes they have.
+    fn take_frames<D: Disk + Drop>(
+        &mut self,
+        bytes: &[u8],
+        held: &mut Vec<HeldSync, A>,
+        hub: &mut Hub<D, A>,
+    ) -> Result<(usize, Stop), ServeFault>
+        requires { held.old.items ≡ [] }
+        ensures taken { IfOk result (λ r. (texts : List (List ℕ)) × (done : List (List ℕ)) × (frames : List ℕ) × (bytes.now ≡ flat_map frame_text texts ++ drop r.0 bytes.now)
+            × (arranged A texts ≡ done ++ awaited None (all_held A held.new.items)) × AreRequests A held.new.items
+            × Chain (IsServed D.state) done (stage_of hub.old self.old) (stage_of hub.new self.new) frames × (self.new.frames.items ≡ self.old.frames.items ++ frames)
             × IsStopped r.1 (drop r.0 bytes.now)) }
         ensures within { IfOk result (λ r. r.0 ≤ length bytes.now) }
     {
@@ -150,7 +173,7 @@ impl<A: Allocator + Copy> Session<A> {
             let (_, rest) = bytes.split_at(at);
             match front_of(rest) {
                 Front::Whole(text) => {
-                    self.serve_text(text, hub)?;
+                    self.take_text(text, held, hub)?;
                     at += LENGTH_BYTES + text.len();
                 }
                 Front::Partial => return Ok((at, Stop::Partial)),
@@ -161,59 +184,6 @@ impl<A: Allocator + Copy> Session<A> {
             }
         }
         Ok((at, Stop::Full))
-    }
-
-    // Does the request of a text, or tells where the text is wrong.
-    fn serve_text<D: Disk + Drop>(
-        &mut self,
-        text: &[u8],
-        hub: &mut Hub<D, A>,
-    ) -> Result<(), ServeFault>
-        requires { length text.now ≤ FRAME_LIMIT }
-        ensures { OnOk result ((frames : List ℕ) × IsServed D.state text.now (stage_of hub.old self.old) (stage_of hub.new self.new) frames × (self.new.frames.items ≡ self.old.frames.items ++ frames)) }
-    {
-        match decode(self.alloc, text) {
-            Ok(request) => self.serve_request(request, hub),
-            Err(DecodeFault::At(place)) => {
-                push_bad(&mut self.frames, tag_of(text), place as u32)?;
-                Ok(())
-            }
-            Err(DecodeFault::OutOfMemory) => Err(ServeFault::OutOfMemory),
-        }
-    }
-
-    // Does a request.
-    fn serve_request<D: Disk + Drop>(
-        &mut self,
-        request: Request<A>,
-        hub: &mut Hub<D, A>,
-    ) -> Result<(), ServeFault>
-        ensures { OnOk result ((frames : List ℕ) × IsDone D.state request.tag request.ask (stage_of hub.old self.old) (stage_of hub.new self.new) frames × (self.new.frames.items ≡ self.old.frames.items ++ frames)) }
-    {
-        let Request { tag, ask } = request;
-        match ask {
-            Ask::Hello(_) => {
-                self.welcome(tag)?;
-                Ok(())
-            }
-            Ask::Event(event) => self.ask(tag, event, hub),
-            Ask::All => {
-                self.flush_all(tag, hub)?;
-                Ok(())
-            }
-        }
-    }
-
-    // Answers a hello, unless it asks for no answer.
-    fn welcome(&mut self, tag: u32) -> Result<(), ServeFault>
-        ensures frames { OnOk result (self.new.frames.items ≡ self.old.frames.items ++ welcome_frame tag) }
-        ensures waiting { self.new.waiting.items ≡ self.old.waiting.items }
-        ensures clients { self.new.clients.items ≡ self.old.clients.items }
-    {
-        if tag != 0 {
-            push_welcome(&mut self.frames, tag)?;
-        }
-        Ok(())
     }
 
     // Writes the frames that wait to be written.

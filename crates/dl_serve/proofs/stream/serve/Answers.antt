@@ -1,7 +1,9 @@
 -- The frames were served, the clients left, and all of it is written.
 use Rattle.std.proofs.Common.{◌≡◌, ◌++◌, ℕ, List, refl, subst}
 use Rattle.std.specs.Io.KnownBytes.{Appends}
+use Rattle.std.specs.List.{flat_map}
 use Rattle.std.proofs.KnownBytes.{Appends-trans, Appends-kept}
+use Rattle.dl_serve.specs.Arranged.{arranged}
 use Rattle.dl_serve.specs.Asked.{Stage, Chain}
 use Rattle.dl_serve.specs.Serve.{IsServed, first_stage}
 use Rattle.dl_serve.specs.Session.{stage_of}
@@ -21,7 +23,7 @@ returns-in-Ok-clause-served g c =
     λ i. record { hub = c.args.hub.now; waiting = c.new-session.ensures.waiting i; clients = c.new-session.ensures.clients i } in
     let last = subst (λ (f : List ℕ). Appends taken sent f) l.2 c.in_ok-send-in-Ok.ensures.written in
     record {
-      texts = k.texts;
+      batches = k.batches;
       rest = k.rest;
       mid = mid;
       last = stage_of c.leave.new.hub c.leave.new.self;
@@ -29,7 +31,7 @@ returns-in-Ok-clause-served g c =
       told = told;
       farewell = l.0;
       framed = k.framed;
-      done = subst (λ (s : Stage g.row.D.Denot g.row.A.Denot). Chain (IsServed {Z = g.row.A.Denot} g.D.Disk.state) k.texts s mid k.answers) fresh k.served;
+      done = subst (λ (s : Stage g.row.D.Denot g.row.A.Denot). Chain (IsServed {Z = g.row.A.Denot} g.D.Disk.state) (flat_map (arranged g.row.A.Denot) k.batches) s mid k.answers) fresh k.served;
       ended = k.ended;
       left = l.1;
       hub = refl;

@@ -1,55 +1,29 @@
--- One frame more is served.
-use Rattle.std.proofs.Common.{◌++◌, ◌∷◌, [], ℕ, List, ap, ◌∙◌, append_assoc}
+-- What is held at the end is done then.
+use Rattle.std.proofs.Common.{◌++◌, ℕ, List, None, sym, ap, ◌∙◌, subst, append_assoc}
+use Rattle.dl_serve.specs.Arranged.{all_held, awaited}
+use Rattle.dl_serve.specs.Asked.{Chain}
 use Rattle.dl_serve.specs.Serve.{IsServed}
 use Rattle.dl_serve.specs.Session.{stage_of}
-use Rattle.dl_serve.proofs.Chains.{chain_more}
-use Rattle.dl_serve.proofs.Streams.{front_more, front_within}
+use Rattle.dl_serve.proofs.Chains.{chain_both}
 use Rattle.dl_serve.proofs.session.Session.serve_frames.Goals as goal
 
-pub returns-then-len-gt-FRAMES_BYTES-clause-served : goal.returns-then-len-gt-FRAMES_BYTES-clause-served
-returns-then-len-gt-FRAMES_BYTES-clause-served g c =
-    let pre = c.loop.invariant in
-    let a = c.in_ok-serve_text-in-Whole.ensures in
-    let front = c.in-Whole.ensures in
-    let text = c.in-Whole.text.now in
-    let bytes = c.args.bytes.now in
-    let rest = c.split_at.result.1.now in (
-      pre.0 ++ text ∷ [],
-      pre.1 ++ a.0,
-      front_more pre.0 text bytes rest c.loop.at pre.2 c.split_at.ensures.back front.2,
-      chain_more (IsServed {Z = g.row.A.Denot} g.D.Disk.state) pre.0 (stage_of c.args.hub.now c.args.self.now) (stage_of c.loop.hub c.loop.self) (stage_of c.serve_text.new.hub c.serve_text.new.self) pre.1 text a.0 pre.3 a.1,
-      a.2 ∙ ap (λ (l : List ℕ). l ++ a.0) pre.4 ∙ append_assoc c.args.self.now.frames.items pre.1 a.0,
-      tt,
+pub returns-clause-served : goal.returns-clause-served
+returns-clause-served g c =
+    let Z = g.row.A.Denot in
+    let Step = IsServed {Z = Z} g.D.Disk.state in
+    let t = c.in_ok-taken.ensures.taken in
+    let s = c.in_ok-sync_held.ensures.synced in
+    let last = awaited None (all_held Z c.take_frames.new.held.items) in
+    let old = stage_of c.args.hub.now c.args.self.now in
+    let mid = stage_of c.take_frames.new.hub c.take_frames.new.self in
+    let new = stage_of c.sync_held.new.hub c.sync_held.new.self in (
+      t.0,
+      t.2 ++ s.0,
+      t.3,
+      subst (λ (l : List (List ℕ)). Chain Step l old new (t.2 ++ s.0)) (sym t.4) (chain_both Step t.1 last old mid new t.2 s.0 t.6 s.1),
+      s.2 ∙ ap (λ (l : List ℕ). l ++ s.0) t.7 ∙ append_assoc c.args.self.now.frames.items t.2 s.0,
+      t.8,
     )
 
-pub loop-preserved : goal.loop-preserved
-loop-preserved g c =
-    let pre = c.loop.invariant in
-    let a = c.in_ok-serve_text-in-Whole.ensures in
-    let front = c.in-Whole.ensures in
-    let text = c.in-Whole.text.now in
-    let bytes = c.args.bytes.now in
-    let rest = c.split_at.result.1.now in (
-      pre.0 ++ text ∷ [],
-      pre.1 ++ a.0,
-      front_more pre.0 text bytes rest c.loop.at pre.2 c.split_at.ensures.back front.2,
-      chain_more (IsServed {Z = g.row.A.Denot} g.D.Disk.state) pre.0 (stage_of c.args.hub.now c.args.self.now) (stage_of c.loop.hub c.loop.self) (stage_of c.serve_text.new.hub c.serve_text.new.self) pre.1 text a.0 pre.3 a.1,
-      a.2 ∙ ap (λ (l : List ℕ). l ++ a.0) pre.4 ∙ append_assoc c.args.self.now.frames.items pre.1 a.0,
-      front_within text bytes rest c.loop.at c.split_at.ensures.back pre.5 front.1,
-    )
-
-pub returns-else-len-gt-FRAMES_BYTES-clause-served : goal.returns-else-len-gt-FRAMES_BYTES-clause-served
-returns-else-len-gt-FRAMES_BYTES-clause-served g c =
-    let pre = c.loop.invariant in
-    let a = c.in_ok-serve_text-in-Whole.ensures in
-    let front = c.in-Whole.ensures in
-    let text = c.in-Whole.text.now in
-    let bytes = c.args.bytes.now in
-    let rest = c.split_at.result.1.now in (
-      pre.0 ++ text ∷ [],
-      pre.1 ++ a.0,
-      front_more pre.0 text bytes rest c.loop.at pre.2 c.split_at.ensures.back front.2,
-      chain_more (IsServed {Z = g.row.A.Denot} g.D.Disk.state) pre.0 (stage_of c.args.hub.now c.args.self.now) (stage_of c.loop.hub c.loop.self) (stage_of c.serve_text.new.hub c.serve_text.new.self) pre.1 text a.0 pre.3 a.1,
-      a.2 ∙ ap (λ (l : List ℕ). l ++ a.0) pre.4 ∙ append_assoc c.args.self.now.frames.items pre.1 a.0,
-      tt,
-    )
+pub sync_held-requires : goal.sync_held-requires
+sync_held-requires g c = c.in_ok-taken.ensures.taken.5
