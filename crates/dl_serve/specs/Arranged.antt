@@ -15,7 +15,7 @@ use Rattle.dl_wire.specs.Fits.{IsRequest}
 use Rattle.dl_wire.specs.Request.{request_text}
 use Rattle.dl_serve.specs.declared.held.HeldSync.{HeldSync}
 
--- when a text is served that came: a sync of this client is held, and another call after the syncs that are held of its client. What is no call of a client is served after all that are held
+-- when a text is served that came: a sync of this client is held, and a call by which its client logs or reads is served after the syncs that are held of its client. Anything else is served after all that are held
 pub data Moment : Type 0 where
   Later : ClientId → Moment
   After : Option ClientId → Moment
@@ -25,7 +25,7 @@ pub record Held : Type 0 where
   pub client : ClientId
   pub text : List ℕ
 
--- a sync of this holder comes before a call of the client, and before what is no call
+-- a sync of this holder comes before a call by which the client logs or reads, and before anything else
 abbrev pub is_awaited : Option ClientId → ClientId → Bool
 is_awaited (Some client) holder = same_client holder client
 is_awaited None holder = true
@@ -59,15 +59,19 @@ module _ {Z : Type 0} where
   sync_in tag (ask.Event (event.Call client log (call.Act act.Sync))) = Some (record { tag = tag; client = client; log = log })
   sync_in tag other = None
 
-  -- the client that calls on a log
+  -- the client of a call that logs or reads
   abbrev pub caller_of : Ask Z → Option ClientId
-  caller_of (ask.Event (event.Call client log asked)) = Some client
+  caller_of (ask.Event (event.Call client log (call.Act (act.Log items)))) = Some client
+  caller_of (ask.Event (event.Call client log (call.Act (act.Chunk from most)))) = Some client
+  caller_of (ask.Event (event.Call client log (call.Act (act.ChunkStep from by)))) = Some client
+  caller_of (ask.Event (event.Call client log (call.Act act.Info))) = Some client
+  caller_of (ask.Event (event.Call client log (call.Alog items))) = Some client
   caller_of other = None
 
   abbrev pub moment_of : Request Z → Moment
   moment_of r = moment_by (sync_in r.tag r.ask) (caller_of r.ask)
 
-  -- the moment of what was read of a text. One that is no request is no call
+  -- the moment of what was read of a text
   abbrev pub moment_read : Result (Request Z) ℕ → Moment
   moment_read (Ok r) = moment_of r
   moment_read (Err place) = After None

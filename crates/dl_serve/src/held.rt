@@ -51,13 +51,21 @@ pub fn sync_in<A: Allocator>(request: &Request<A>) -> Option<HeldSync>
     }
 }
 
-/// The client that calls on a log by a request.
+/// The client of a call that logs or reads, which may be done before syncs of other clients. Any other request comes after all syncs
+/// before it, since it may change what they are answered.
 pub fn caller_of<A: Allocator>(request: &Request<A>) -> Option<ClientId>
     ensures { result ≡ caller_of request.now.ask }
 {
     match &request.ask {
         Ask::Event(event) => match event {
-            Event::Call { client, .. } => Some(*client),
+            Event::Call { client, call, .. } => match call {
+                Call::Act(Act::Log(_)) => Some(*client),
+                Call::Act(Act::Chunk { .. }) => Some(*client),
+                Call::Act(Act::ChunkStep { .. }) => Some(*client),
+                Call::Act(Act::Info) => Some(*client),
+                Call::Alog(_) => Some(*client),
+                _ => None,
+            },
             Event::Exit { .. } | Event::Flush => None,
         },
         Ask::Hello(_) | Ask::All => None,
