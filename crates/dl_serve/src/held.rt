@@ -72,7 +72,7 @@ pub fn caller_of<A: Allocator>(request: &Request<A>) -> Option<ClientId>
     }
 }
 
-/// Whether a sync of this holder comes before a call of the client, or before what is no call.
+/// Whether a sync of this holder comes before a call of the client. It does if no client is given.
 pub fn is_awaited(client: Option<ClientId>, holder: ClientId) -> bool
     ensures { result ≡ is_awaited client holder }
 {

@@ -15,7 +15,7 @@ use dl_types::ClientId;
 use std::alloc::Allocator;
 
 impl<A: Allocator + Copy> Session<A> {
-    /// Does the held syncs that come before a call of this client, or all of them before what is no call, in their order.
+    /// Does the held syncs that come before a call of this client, or all of them if no client is given, in their order.
     pub fn sync_held<D: Disk + Drop>(
         &mut self,
         client: Option<ClientId>,
@@ -33,7 +33,7 @@ impl<A: Allocator + Copy> Session<A> {
         Ok(())
     }
 
-    // Does those of some held syncs that come before a call of this client, or before what is no call.
+    // Does those of some held syncs that come before a call of this client, or all of them if no client is given.
     fn sync_each<D: Disk + Drop>(
         &mut self,
         client: Option<ClientId>,
@@ -50,7 +50,7 @@ impl<A: Allocator + Copy> Session<A> {
         Ok(())
     }
 
-    // Does a held sync if it comes before a call of this client, or before what is no call.
+    // Does a held sync if it comes before a call of this client, or if no client is given.
     fn sync_one<D: Disk + Drop>(
         &mut self,
         client: Option<ClientId>,
