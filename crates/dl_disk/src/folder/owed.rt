@@ -45,7 +45,7 @@ impl Owed {
     pub(crate) fn write(&mut self, file: FileName) -> Result<(), AllocError>
         ensures owes { OnOk result (IsTrue (owes self.new file)) }
         ensures changed { is_unchanged self.new file ≡ false }
-        ensures lost { KeepsLost self.old self.new }
+        ensures rest { self.new ≡ record self.old { files = self.new.files; unchanged = self.new.unchanged } }
         ensures err { OnErr result (self.new.files.keys ≡ self.old.files.keys) }
     {
         let _ = self.unchanged.swap_remove(&file);
