@@ -20,7 +20,7 @@ clients=$here/../../clients
 work=$(mktemp -d)
 trap 'rm -rf -- "$work" "$dir"/run' EXIT
 
-cc -std=c11 -D_POSIX_C_SOURCE=200809L -O2 -o "$work/log_c" "$here/log.c" "$clients"/c/*.c
+cc -std=c11 -D_POSIX_C_SOURCE=200809L -pthread -O2 -o "$work/log_c" "$here/log.c" "$clients"/c/*.c
 rustc --edition 2021 -O --crate-type rlib --crate-name dlog -o "$work/libdlog.rlib" "$clients/rust/src/lib.rs"
 rustc --edition 2021 -O --extern dlog="$work/libdlog.rlib" -o "$work/log_rust" "$here/log.rs"
 erlc -o "$work" "$clients"/erlang/src/*.erl

@@ -9,12 +9,11 @@ enum { OP_OPEN = 1, OP_LOG = 2, OP_CHUNK = 4, OP_SYNC = 10, OP_BLOCK = 11, OP_UN
 int dlog_send(struct dlog *dlog, uint8_t op, uint32_t client, const char *name,
               const void *parts, size_t length, uint32_t *tag)
 {
-    size_t start = dlog->out_length;
     int fault = dlog_begin(dlog, op, client, name);
 
     if (fault == 0)
         fault = dlog_add(dlog, parts, length);
-    return dlog_end(dlog, start, fault, tag);
+    return dlog_end(dlog, fault, tag);
 }
 
 int dlog_call(struct dlog *dlog, uint8_t op, uint32_t client, const char *name,
@@ -69,20 +68,22 @@ int dlog_open(struct dlog *dlog, uint32_t client, const char *name,
               const struct dlog_options *options, struct dlog_answer *answer)
 {
     static const struct dlog_options plain;
-    size_t start = dlog->out_length;
     uint32_t tag;
     int fault = dlog_begin(dlog, OP_OPEN, client, name);
 
     if (fault == 0)
         fault = add_options(dlog, options != NULL ? options : &plain);
-    fault = dlog_end(dlog, start, fault, &tag);
+    fault = dlog_end(dlog, fault, &tag);
     return fault != 0 ? fault : dlog_answer(dlog, tag, answer);
 }
 
 static int add_items(struct dlog *dlog, const struct dlog_bytes *items, uint32_t count)
 {
-    int fault = dlog_add_number(dlog, count, 4);
+    int fault;
 
+    if (count == 0)
+        return dlog_fail(dlog, DLOG_INVALID, "a call of no items: it has at least one");
+    fault = dlog_add_number(dlog, count, 4);
     for (uint32_t i = 0; i < count && fault == 0; i++)
         fault = dlog_add_item(dlog, &items[i]);
     return fault;
@@ -91,12 +92,11 @@ static int add_items(struct dlog *dlog, const struct dlog_bytes *items, uint32_t
 int dlog_send_log(struct dlog *dlog, uint32_t client, const char *name,
                   const struct dlog_bytes *items, uint32_t count, uint32_t *tag)
 {
-    size_t start = dlog->out_length;
     int fault = dlog_begin(dlog, OP_LOG, client, name);
 
     if (fault == 0)
         fault = add_items(dlog, items, count);
-    return dlog_end(dlog, start, fault, tag);
+    return dlog_end(dlog, fault, tag);
 }
 
 int dlog_log(struct dlog *dlog, uint32_t client, const char *name,

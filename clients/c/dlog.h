@@ -6,13 +6,14 @@
  * `dlog_error` has the words. What the server says stands in the answer: a kind from 64 on is a
  * refusal.
  *
- * Threads: one thread at a time may use a `struct dlog`. Calls on different ones may be made side by
- * side, `dlog_start` too. A folder has one server, so threads that share a folder share a lock round
- * the calls; the one that has it may send for several.
+ * Threads: one thread at a time may use a `struct dlog`, and any number of threads a server: each
+ * attaches one of its own (`dlog_attach`). Their calls are sent without waiting for each other's
+ * answers, so that their syncs can share one of the device.
  */
 #ifndef DLOG_H
 #define DLOG_H
 
+#include <pthread.h>
 #include <stddef.h>
 #include <stdint.h>
 #include <sys/types.h>
@@ -21,8 +22,8 @@ enum dlog_fault {
     DLOG_GONE = -1,      /* the server has ended, or did not start. A call that was sent may be done */
     DLOG_TIMED_OUT = -2, /* the server did not answer in time. The call may yet be done */
     DLOG_INVALID = -3,   /* no server could read the call, so it was not sent */
-    DLOG_EXHAUSTED = -4, /* memory or descriptors ran out. Stop the server */
-    DLOG_FORM = -5       /* an answer has no form of the protocol */
+    DLOG_EXHAUSTED = -4, /* memory or descriptors ran out, as for a start. Stop the server if there is one */
+    DLOG_FORM = -5       /* an answer has no form of the protocol, or the server speaks another version */
 };
 
 enum dlog_kind {
@@ -38,6 +39,7 @@ enum dlog_kind {
     DLOG_INFO = 9,
     DLOG_TURN = 10,
     DLOG_NO_MEMORY = 11,
+    DLOG_UNSYNCED = 12,
     DLOG_BAD_FRAME = 63,
     DLOG_REFUSED = 64,
     DLOG_NOTICE = 128
@@ -57,7 +59,8 @@ struct dlog_place {
     uint8_t bytes[DLOG_PLACE_BYTES];
 };
 
-/* An answer or a notice: its tag, its kind, and its parts, which stand until the next call. */
+/* An answer or a notice: its tag, its kind, and its parts, which stand until the next call by the same
+ * `struct dlog`. */
 struct dlog_answer {
     uint32_t tag;
     uint8_t kind;
@@ -73,7 +76,9 @@ struct dlog_settings {
     int timeout;        /* the milliseconds that a call may take; 0: no limit */
 };
 
-/* How a log is opened. All zeros: a halt log without limit, read and written, repaired if needed. */
+/* How a log is opened. All zeros: a halt log without limit, read and written, repaired if needed, also
+ * where the folder has a wrap log of its name: a new log is begun beside that. A wrap log that is there is
+ * opened with `wrap`, or with its `files`. */
 struct dlog_options {
     const char *base;       /* NULL: the name */
     int has_size;           /* 0: the size that the log has */
@@ -88,33 +93,34 @@ struct dlog_options {
     uint32_t hold;          /* the most blocks that it may have; 0: as it is open, or else any */
 };
 
-/* A server. Its parts are the client's own. */
+/* A thread's part in a server. Its members are the client's own, but for `status`: how a server ended
+ * of which a call or `dlog_stop` has reported it. */
 struct dlog {
-    pid_t process;
-    int input;  /* where requests are written */
-    int output; /* where answers are read */
-    int errors; /* where its standard error is read */
-    int has_started, has_ended;
+    struct dlog_server *server; /* NULL: it has none, or has given it up */
     int status;
     int timeout;
     int64_t deadline;
-    uint32_t frame_limit;
-    uint32_t tag;
-    uint8_t *out;
-    size_t out_at, out_length, out_room;
-    uint8_t *in;
-    size_t in_at, in_length, in_room;
-    uint8_t *kept; /* an answer that was taken from between others */
-    char words[1024];
+    size_t start;     /* where the request begins that is made */
+    uint32_t awaited; /* the tag for which it waits while another thread reads */
+    int is_woken;
+    pthread_cond_t woken;
+    struct dlog *next; /* among those that wait */
+    uint8_t *kept;     /* the parts of its last answer */
+    size_t kept_room;
     char fault[1280];
 };
 
 /* Starts `program serve --folder folder` and waits until it serves. It is in a session of its own and
- * ignores SIGTERM, SIGINT and SIGHUP, so that no signal that is meant for this program ends it. SIGPIPE
- * is ignored here from then on. After a fault nothing is left to stop. */
+ * ignores SIGTERM, SIGINT and SIGHUP, so that no signal that is meant for this program ends it, and
+ * SIGXFSZ, so that a limit on the size of files is an error (E24). SIGPIPE is ignored here from then on. After a fault nothing is left to stop. */
 int dlog_start(struct dlog *dlog, const char *program, const char *folder);
 int dlog_start_with(struct dlog *dlog, const char *program, const char *folder,
                     const struct dlog_settings *settings);
+
+/* Gives another thread a part in the server of `dlog`: `own`, which has the same limit of time. It
+ * detaches it at its end. Calls of `dlog` may be under way, but for a stop or its own end. Where the server is stopped, calls of all are DLOG_GONE from then on. */
+int dlog_attach(struct dlog *own, struct dlog *dlog);
+void dlog_detach(struct dlog *own);
 
 /* Ends the input of the server, which closes its logs, waits for it, and returns its status: 0 if all
  * was written, 128 and the signal if it was killed, or DLOG_TIMED_OUT; then it may be called again. */
@@ -126,6 +132,9 @@ void dlog_kill(struct dlog *dlog);
 /* In a child by fork: gives the server up, which is its parent's. A program that is started by exec
  * has no part in it as it is. */
 void dlog_forget(struct dlog *dlog);
+
+/* The number of the server's process. */
+pid_t dlog_process(const struct dlog *dlog);
 
 /* How many milliseconds each call may take from now on; 0: no limit. */
 void dlog_set_timeout(struct dlog *dlog, int milliseconds);
@@ -142,6 +151,13 @@ int dlog_log(struct dlog *dlog, uint32_t client, const char *name,
 int dlog_chunk(struct dlog *dlog, uint32_t client, const char *name,
                const struct dlog_place *place, uint64_t most, struct dlog_answer *answer);
 int dlog_sync(struct dlog *dlog, uint32_t client, const char *name, struct dlog_answer *answer);
+/* Syncs these logs. The answer is DLOG_UNSYNCED and has those that are not on the device
+ * (`dlog_unsynced`); the others are. It waits for no block: a log that one keeps off is among them, as
+ * DLOG_SUSPENDED. With a count of 0 it is all that are open, whoever opened them: one that is open
+ * read-only is not synced (E13), and nothing is said of a log whose open failed, or that is closed and
+ * still waits to be written. So name the logs that matter. */
+int dlog_sync_all(struct dlog *dlog, uint32_t client, const char *const *names, uint32_t count,
+                  struct dlog_answer *answer);
 int dlog_close(struct dlog *dlog, uint32_t client, const char *name, struct dlog_answer *answer);
 int dlog_block(struct dlog *dlog, uint32_t client, const char *name, int queue,
                struct dlog_answer *answer);
@@ -167,7 +183,8 @@ int dlog_flush(struct dlog *dlog);
 /* Waits for the answer of a call that was sent. Notices that come meanwhile are dropped. */
 int dlog_answer(struct dlog *dlog, uint32_t tag, struct dlog_answer *answer);
 
-/* Waits for the next answer or notice. */
+/* Waits for the next answer or notice, whichever thread it is for: of several that share a server none
+ * takes answers so. */
 int dlog_receive(struct dlog *dlog, struct dlog_answer *answer);
 
 /* Takes the items of an answer of the kind DLOG_ITEMS: the place after them first, and then the
@@ -181,5 +198,16 @@ struct dlog_items {
 };
 int dlog_items(const struct dlog_answer *answer, struct dlog_items *items);
 int dlog_next_item(struct dlog_items *items, struct dlog_bytes *item);
+
+/* Takes the logs of an answer of the kind DLOG_UNSYNCED: how many are left first, none if all are on the
+ * device, and then one at a time, with what its sync was answered, until it returns 1. */
+struct dlog_unsynced {
+    const uint8_t *at;
+    size_t length;
+    uint32_t left;
+};
+int dlog_unsynced(const struct dlog_answer *answer, struct dlog_unsynced *unsynced);
+int dlog_next_unsynced(struct dlog_unsynced *unsynced, char name[DLOG_NAME_LIMIT + 1],
+                       struct dlog_answer *its);
 
 #endif

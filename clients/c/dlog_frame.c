@@ -6,26 +6,28 @@
 #include <string.h>
 #include <unistd.h>
 
-enum { FRAME_BYTES = 9 };
+enum { NONE = 255 /* no kind of an answer */ };
 
 /* ---- bytes that are to be sent */
 
 int dlog_add(struct dlog *dlog, const void *bytes, size_t length)
 {
-    if (dlog->has_ended)
+    struct dlog_server *server = dlog->server;
+
+    if (server == NULL || server->has_ended)
         return dlog_gone(dlog);
-    if (dlog->out_room - dlog->out_length < length) {
-        size_t room = 2 * (dlog->out_length + length);
-        uint8_t *out = realloc(dlog->out, room);
+    if (server->out_room - server->out_length < length) {
+        size_t room = 2 * (server->out_length + length);
+        uint8_t *out = realloc(server->out, room);
 
         if (out == NULL)
             return dlog_fail(dlog, DLOG_EXHAUSTED, "out of memory");
-        dlog->out = out;
-        dlog->out_room = room;
+        server->out = out;
+        server->out_room = room;
     }
     if (length > 0)
-        memcpy(dlog->out + dlog->out_length, bytes, length);
-    dlog->out_length += length;
+        memcpy(server->out + server->out_length, bytes, length);
+    server->out_length += length;
     return 0;
 }
 
@@ -71,8 +73,12 @@ int dlog_add_item(struct dlog *dlog, const struct dlog_bytes *item)
 
 int dlog_begin(struct dlog *dlog, uint8_t op, uint32_t client, const char *name)
 {
-    int fault = dlog_add_number(dlog, 0, 8);
+    int fault = dlog_hold(dlog);
 
+    if (fault != 0)
+        return fault;
+    dlog->start = dlog->server->out_length;
+    fault = dlog_add_number(dlog, 0, 8);
     if (fault == 0)
         fault = dlog_add_number(dlog, op, 1);
     if (fault == 0 && name != NULL)
@@ -80,54 +86,72 @@ int dlog_begin(struct dlog *dlog, uint8_t op, uint32_t client, const char *name)
     return fault == 0 && name != NULL ? dlog_add_name(dlog, name) : fault;
 }
 
-int dlog_end(struct dlog *dlog, size_t start, int fault, uint32_t *tag)
+/* Sets the length and the tag of a whole request. */
+static int seal(struct dlog *dlog, uint32_t *tag)
 {
-    size_t length = dlog->out_length - start - 4;
+    struct dlog_server *server = dlog->server;
+    size_t length = server->out_length - dlog->start - 4;
 
-    if (fault == 0 && length > dlog->frame_limit)
-        fault = dlog_fail(dlog, DLOG_INVALID, "a request of %zu bytes: it has at most %lu", length,
-                          (unsigned long)dlog->frame_limit);
-    if (fault != 0) {
-        dlog->out_length = dlog->out_length < start ? dlog->out_length : start;
-        return fault;
-    }
-    dlog_put(dlog->out + start, length, 4);
+    if (length > server->frame_limit)
+        return dlog_fail(dlog, DLOG_INVALID, "a request of %zu bytes: it has at most %lu", length,
+                         (unsigned long)server->frame_limit);
+    dlog_put(server->out + dlog->start, length, 4);
     if (tag == NULL)
         return 0;
-    if (++dlog->tag == 0)
-        dlog->tag = 1;
-    *tag = dlog->tag;
-    dlog_put(dlog->out + start + 4, *tag, 4);
+    if (++server->tag == 0)
+        server->tag = 1;
+    *tag = server->tag;
+    dlog_put(server->out + dlog->start + 4, *tag, 4);
     return 0;
 }
 
-/* Writes what is to be sent, and takes answers in meanwhile, so that the server goes on. */
-static int write_all(struct dlog *dlog)
+int dlog_end(struct dlog *dlog, int fault, uint32_t *tag)
 {
+    struct dlog_server *server = dlog->server;
+
+    if (server == NULL)
+        return fault;
+    if (fault == 0)
+        fault = seal(dlog, tag);
+    if (fault != 0 && server->out_length > dlog->start)
+        server->out_length = dlog->start;
+    dlog_release(dlog);
+    return fault;
+}
+
+int dlog_write_all(struct dlog *dlog)
+{
+    struct dlog_server *server = dlog->server;
     int fault = 0;
 
-    while (dlog->out_at < dlog->out_length && fault == 0) {
-        ssize_t count = write(dlog->input, dlog->out + dlog->out_at, dlog->out_length - dlog->out_at);
+    while (server->out_at < server->out_length && fault == 0) {
+        ssize_t count = write(server->input, server->out + server->out_at, server->out_length - server->out_at);
 
         if (count > 0)
-            dlog->out_at += (size_t)count;
+            server->out_at += (size_t)count;
         else if (count < 0 && errno != EINTR)
             fault = dlog_wait(dlog, errno == EAGAIN);
     }
-    if (fault == 0)
-        dlog->out_at = dlog->out_length = 0;
+    if (server->out_at == server->out_length)
+        server->out_at = server->out_length = 0;
     return fault;
 }
 
 int dlog_flush(struct dlog *dlog)
 {
+    int fault = dlog_hold(dlog);
+
+    if (fault != 0)
+        return fault;
     dlog_begin_time(dlog);
-    return write_all(dlog);
+    fault = dlog_write_all(dlog);
+    dlog_release(dlog);
+    return fault;
 }
 
 /* ---- answers */
 
-static uint64_t number_at(const uint8_t *bytes, int count)
+uint64_t dlog_number_at(const uint8_t *bytes, int count)
 {
     uint64_t number = 0;
 
@@ -136,82 +160,76 @@ static uint64_t number_at(const uint8_t *bytes, int count)
     return number;
 }
 
-/* Waits until a whole frame is there so many bytes behind the first one. */
-static int need_frame(struct dlog *dlog, size_t behind)
+/* Takes a frame, whose parts are copied, and passes over those at the front that were taken. */
+static int take_frame(struct dlog *dlog, uint8_t *frame, struct dlog_answer *answer)
 {
-    int fault = 0;
+    struct dlog_server *server = dlog->server;
+    size_t length = 4 + (size_t)dlog_number_at(frame, 4) - FRAME_BYTES;
 
-    while (fault == 0) {
-        size_t have = dlog->in_length - dlog->in_at - behind;
-        const uint8_t *frame = dlog->in + dlog->in_at + behind;
-        uint64_t length = have < 4 ? 0 : number_at(frame, 4);
-
-        if (have >= 4 && length < FRAME_BYTES - 4)
-            return dlog_fail(dlog, DLOG_FORM, "an answer of %d bytes", (int)length);
-        if (have >= 4 && have - 4 >= length)
-            return 0;
-        fault = dlog_wait(dlog, 0);
-    }
-    return fault;
-}
-
-/* Takes the frame that is so many bytes behind the first one. */
-static int take_frame(struct dlog *dlog, size_t behind, struct dlog_answer *answer)
-{
-    uint8_t *frame = dlog->in + dlog->in_at + behind;
-    size_t length = 4 + (size_t)number_at(frame, 4);
-
-    if (behind == 0) {
-        dlog->in_at += length;
-    } else {
+    if (length > dlog->kept_room) {
         uint8_t *kept = realloc(dlog->kept, length);
 
         if (kept == NULL)
             return dlog_fail(dlog, DLOG_EXHAUSTED, "out of memory");
         dlog->kept = kept;
-        memcpy(kept, frame, length);
-        dlog->in_length -= length;
-        memmove(frame, frame + length, dlog->in_length - dlog->in_at - behind);
-        frame = kept;
+        dlog->kept_room = length;
     }
-    answer->tag = (uint32_t)number_at(frame + 4, 4);
-    answer->kind = frame[8];
-    answer->parts = frame + FRAME_BYTES;
-    answer->length = length - FRAME_BYTES;
+    if (length > 0)
+        memcpy(dlog->kept, frame + FRAME_BYTES, length);
+    *answer = (struct dlog_answer){ (uint32_t)dlog_number_at(frame + 4, 4), frame[8], dlog->kept, length };
+    memset(frame + 4, 0, FRAME_BYTES - 4);
+    while (server->in_at < server->in_seen && dlog_number_at(server->in + server->in_at + 4, 5) == 0)
+        server->in_at += 4 + (size_t)dlog_number_at(server->in + server->in_at, 4);
     return 0;
+}
+
+/* Takes the answer of a tag, or with a tag of 0 the first that is there. Notices before an answer are
+ * passed over for it. Where it is not there yet the answer has the kind NONE. */
+static int take(struct dlog *dlog, uint32_t tag, struct dlog_answer *answer)
+{
+    struct dlog_server *server = dlog->server;
+    int fault = 0;
+
+    answer->kind = NONE;
+    for (size_t at = server->in_at; at < server->in_seen && answer->kind == NONE && fault == 0;) {
+        uint8_t *frame = server->in + at;
+        size_t length = 4 + (size_t)dlog_number_at(frame, 4);
+        uint32_t its = (uint32_t)dlog_number_at(frame + 4, 4);
+
+        if (tag == 0 ? its != 0 || frame[8] != 0 : its == tag)
+            fault = take_frame(dlog, frame, answer);
+        else if (frame[8] == DLOG_NOTICE)
+            memset(frame + 4, 0, FRAME_BYTES - 4);
+        at += length;
+    }
+    if (answer->kind == NONE && server->has_form_fault)
+        return dlog_fail(dlog, DLOG_FORM, "an answer of less than %d bytes", FRAME_BYTES - 4);
+    return fault;
+}
+
+/* Waits for the answer of a tag, or, of 0, for the next one. Others stay where they are. */
+static int await(struct dlog *dlog, uint32_t tag, struct dlog_answer *answer)
+{
+    int fault = dlog_hold(dlog), taken;
+
+    if (fault != 0)
+        return fault;
+    dlog_begin_time(dlog);
+    dlog->awaited = tag;
+    fault = dlog_write_all(dlog);
+    while ((taken = take(dlog, tag, answer)) == 0 && answer->kind == NONE && fault == 0)
+        fault = dlog_wait(dlog, 0);
+    dlog_release(dlog);
+    return taken == 0 && answer->kind == NONE ? fault : taken;
 }
 
 int dlog_receive(struct dlog *dlog, struct dlog_answer *answer)
 {
-    int fault = dlog_flush(dlog);
-
-    if (fault == 0)
-        fault = need_frame(dlog, 0);
-    return fault != 0 ? fault : take_frame(dlog, 0, answer);
-}
-
-/* Waits for the answer of a tag. Answers of other tags stay where they are. */
-static int await(struct dlog *dlog, uint32_t tag, struct dlog_answer *answer)
-{
-    int fault = write_all(dlog);
-    size_t behind = 0;
-
-    while (fault == 0 && (fault = need_frame(dlog, behind)) == 0) {
-        const uint8_t *frame = dlog->in + dlog->in_at + behind;
-
-        if (frame[8] != DLOG_NOTICE && number_at(frame + 4, 4) == tag)
-            return take_frame(dlog, behind, answer);
-        if (frame[8] == DLOG_NOTICE)
-            fault = take_frame(dlog, behind, answer);
-        else
-            behind += 4 + (size_t)number_at(frame, 4);
-    }
-    return fault;
+    return await(dlog, 0, answer);
 }
 
 int dlog_answer(struct dlog *dlog, uint32_t tag, struct dlog_answer *answer)
 {
-    dlog_begin_time(dlog);
     return await(dlog, tag, answer);
 }
 
@@ -221,8 +239,8 @@ int dlog_items(const struct dlog_answer *answer, struct dlog_items *items)
         return DLOG_FORM;
     items->next.given = 1;
     memcpy(items->next.bytes, answer->parts, DLOG_PLACE_BYTES);
-    items->bad = number_at(answer->parts + DLOG_PLACE_BYTES, 8);
-    items->left = (uint32_t)number_at(answer->parts + DLOG_PLACE_BYTES + 8, 4);
+    items->bad = dlog_number_at(answer->parts + DLOG_PLACE_BYTES, 8);
+    items->left = (uint32_t)dlog_number_at(answer->parts + DLOG_PLACE_BYTES + 8, 4);
     items->at = answer->parts + DLOG_PLACE_BYTES + 12;
     items->length = answer->length - DLOG_PLACE_BYTES - 12;
     return 0;
@@ -234,7 +252,7 @@ int dlog_next_item(struct dlog_items *items, struct dlog_bytes *item)
         return 1;
     if (items->length < 4)
         return DLOG_FORM;
-    item->length = (size_t)number_at(items->at, 4);
+    item->length = (size_t)dlog_number_at(items->at, 4);
     item->at = items->at + 4;
     if (item->length > items->length - 4)
         return DLOG_FORM;

@@ -12,7 +12,7 @@
 #include <time.h>
 #include <unistd.h>
 
-enum { OP_HELLO = 0, NOT_STARTED = 127, TRY_AGAIN = 50 /* milliseconds */ };
+enum { OP_HELLO = 0, VERSION = 3, NOT_STARTED = 127, TRY_AGAIN = 50 /* milliseconds */ };
 
 /* ---- the start */
 
@@ -25,6 +25,7 @@ static void become(const char *program, char *const words[], const int ends[3])
     signal(SIGTERM, SIG_IGN);
     signal(SIGINT, SIG_IGN);
     signal(SIGHUP, SIG_IGN);
+    signal(SIGXFSZ, SIG_IGN); /* a limit on the size of files is an error then */
     for (int i = 0; i < 3; i++)
         dup2(ends[i], i);
     execvp(program, words);
@@ -37,60 +38,74 @@ static void become(const char *program, char *const words[], const int ends[3])
 
 static int start_program(struct dlog *dlog, const char *program, char *const words[])
 {
+    struct dlog_server *server = dlog->server;
     int given[2] = { -1, -1 }, output[2] = { -1, -1 }, errors[2] = { -1, -1 };
+    int why = 0;
 
-    dlog->process = -1;
     if (dlog_open_pipe(given) == 0 && dlog_open_pipe(output) == 0 && dlog_open_pipe(errors) == 0)
-        dlog->process = fork();
-    if (dlog->process == 0)
+        server->process = fork();
+    if (server->process == 0)
         become(program, words, (int[]){ given[0], output[1], errors[1] });
+    if (server->process < 0)
+        why = errno;
     dlog_close_pipe(&given[0]);
     dlog_close_pipe(&output[1]);
     dlog_close_pipe(&errors[1]);
-    dlog->input = given[1];
-    dlog->output = output[0];
-    dlog->errors = errors[0];
-    if (dlog->process > 0 && fcntl(dlog->input, F_SETFL, O_NONBLOCK) == 0)
-        return 0;
-    dlog_fail(dlog, DLOG_EXHAUSTED, "the server cannot be started: %s", strerror(errno));
-    dlog_forget(dlog);
-    return DLOG_EXHAUSTED;
+    server->input = given[1];
+    server->output = output[0];
+    server->errors = errors[0];
+    if (why == 0 && fcntl(server->input, F_SETFL, O_NONBLOCK) != 0)
+        why = errno;
+    return why == 0 ? 0 : dlog_fail(dlog, DLOG_EXHAUSTED, "the server cannot be started: %s", strerror(why));
 }
 
-/* Ends a server that did not start as it should. */
-static int give_up(struct dlog *dlog, int fault)
+/* Asks the server for its limits. */
+static int say_hello(struct dlog *dlog)
+{
+    struct dlog_answer answer;
+    uint8_t version[2];
+    uint32_t tag;
+    int fault;
+
+    dlog_put(version, VERSION, sizeof version);
+    fault = dlog_send(dlog, OP_HELLO, 0, NULL, version, sizeof version, &tag);
+
+    if (fault == 0)
+        fault = dlog_answer(dlog, tag, &answer);
+    if (fault != 0)
+        return fault;
+    if (answer.kind != DLOG_WELCOME || answer.length < 6)
+        return dlog_fail(dlog, DLOG_FORM, "the program is no server of dlog");
+    if (dlog_number_at(answer.parts, 2) != VERSION)
+        return dlog_fail(dlog, DLOG_FORM, "the server speaks version %d of the frames, and this client version %d",
+                         (int)dlog_number_at(answer.parts, 2), VERSION);
+    dlog->server->frame_limit = (uint32_t)dlog_number_at(answer.parts + 2, 4);
+    return 0;
+}
+
+/* Starts the server once, and waits for its hello. One that does not start as it should is ended. */
+static int start(struct dlog *dlog, const char *program, char *const words[], int timeout)
 {
     char why[sizeof dlog->fault];
-
-    memcpy(why, dlog->fault, sizeof why);
-    dlog_kill(dlog);
-    dlog_forget(dlog);
-    return dlog_fail(dlog, fault, "%s", why);
-}
-
-/* Starts the server once, and waits for its hello. */
-static int start(struct dlog *dlog, const char *program, char *const words[])
-{
-    static const uint8_t version[2] = { 0, 2 };
-    struct dlog_answer answer;
-    int fault = start_program(dlog, program, words);
-    uint32_t tag;
+    int fault = dlog_make(dlog);
 
     if (fault != 0)
         return fault;
-    dlog->frame_limit = UINT32_MAX;
-    fault = dlog_send(dlog, OP_HELLO, 0, NULL, version, sizeof version, &tag);
+    dlog->timeout = timeout;
+    fault = start_program(dlog, program, words);
     if (fault == 0)
-        fault = dlog_answer(dlog, tag, &answer);
-    if (fault == 0 && (answer.kind != DLOG_WELCOME || answer.length < 6))
-        fault = dlog_fail(dlog, DLOG_FORM, "the program is no server of dlog");
-    if (fault != 0)
-        return give_up(dlog, fault);
-    dlog->frame_limit = (uint32_t)answer.parts[2] << 24 | (uint32_t)answer.parts[3] << 16
-                      | (uint32_t)answer.parts[4] << 8 | answer.parts[5];
-    dlog->has_started = 1;
-    dlog_say(dlog->words, strlen(dlog->words));
-    return 0;
+        fault = say_hello(dlog);
+    if (fault == 0) {
+        dlog->server->has_started = 1;
+        dlog_say(dlog->server->words, strlen(dlog->server->words));
+        return 0;
+    }
+    memcpy(why, dlog->fault, sizeof why);
+    if (dlog->server->process > 0)
+        dlog_kill(dlog);
+    else
+        dlog_detach(dlog);
+    return dlog_fail(dlog, fault, "%s", why);
 }
 
 int dlog_start_with(struct dlog *dlog, const char *program, const char *folder,
@@ -108,9 +123,7 @@ int dlog_start_with(struct dlog *dlog, const char *program, const char *folder,
     snprintf(blocks, sizeof blocks, "%lu", (unsigned long)(set->blocks > 0 ? set->blocks : 16));
     signal(SIGPIPE, SIG_IGN);
     for (;;) {
-        memset(dlog, 0, sizeof *dlog);
-        dlog->timeout = set->timeout;
-        fault = start(dlog, program, words);
+        fault = start(dlog, program, words, set->timeout);
         /* The status of a folder that is in use, or not there. */
         if (fault != DLOG_GONE || dlog->status != 1 || dlog_now() >= until)
             return fault;
@@ -125,41 +138,41 @@ int dlog_start(struct dlog *dlog, const char *program, const char *folder)
 
 /* ---- the end */
 
-void dlog_forget(struct dlog *dlog)
+pid_t dlog_process(const struct dlog *dlog)
 {
-    dlog_close_pipe(&dlog->input);
-    dlog_close_pipe(&dlog->output);
-    dlog_close_pipe(&dlog->errors);
-    free(dlog->in);
-    free(dlog->out);
-    free(dlog->kept);
-    dlog->in = dlog->out = dlog->kept = NULL;
-    dlog->in_at = dlog->in_length = dlog->in_room = 0;
-    dlog->out_at = dlog->out_length = dlog->out_room = 0;
-    dlog->has_ended = 1;
+    return dlog->server != NULL ? dlog->server->process : -1;
 }
 
 int dlog_stop(struct dlog *dlog)
 {
-    int fault = dlog->input >= 0 ? dlog_flush(dlog) : 0;
+    int fault = dlog_hold(dlog);
 
-    dlog_close_pipe(&dlog->input);
+    if (fault != 0)
+        return dlog->status;
     dlog_begin_time(dlog);
-    while (fault == 0) {
-        dlog->in_at = dlog->in_length = 0;
+    dlog->awaited = 0;
+    if (dlog->server->input >= 0)
+        fault = dlog_write_all(dlog);
+    dlog_close_pipe(&dlog->server->input);
+    dlog_begin_time(dlog);
+    while (fault == 0)
         fault = dlog_wait(dlog, 0);
+    if (fault != DLOG_GONE) {
+        dlog_release(dlog);
+        return fault;
     }
-    if (fault == DLOG_GONE)
-        dlog_forget(dlog);
-    return fault == DLOG_GONE ? dlog->status : fault;
+    dlog_give_up(dlog);
+    return dlog->status;
 }
 
 void dlog_kill(struct dlog *dlog)
 {
+    if (dlog_hold(dlog) != 0)
+        return;
     dlog->timeout = 0;
-    dlog->out_at = dlog->out_length = 0;
-    if (!dlog->has_ended) {
-        kill(dlog->process, SIGKILL);
-        dlog_stop(dlog);
-    }
+    dlog->server->out_at = dlog->server->out_length = 0;
+    if (!dlog->server->has_ended)
+        kill(dlog->server->process, SIGKILL);
+    dlog_release(dlog);
+    dlog_stop(dlog);
 }

@@ -3,29 +3,30 @@
 
 #include <pthread.h>
 #include <signal.h>
+#include <sys/resource.h>
 #include <sys/stat.h>
 #include <sys/wait.h>
 #include <unistd.h>
 
-enum { MANY = 1000, PATIENCE = 60000, SHORT = 200, THREADS = 4, EACH = 100 };
+enum { MANY = 1000, PATIENCE = 60000, SHORT = 200, THREADS = 8, EACH = 100 };
 
 static const struct dlog_settings patient = { .wait = PATIENCE, .timeout = PATIENCE };
 
-static const char *make(char *folder, const char *parent, const char *name)
+const char *make(char *folder, const char *parent, const char *name)
 {
     snprintf(folder, 4096, "%s/%s", parent, name);
     CHECK(mkdir(folder, 0700) == 0);
     return folder;
 }
 
-static void open_log(struct dlog *dlog, const char *name, uint8_t kind)
+void open_log(struct dlog *dlog, const char *name, uint8_t kind)
 {
     struct dlog_answer answer;
 
     CHECK(dlog_open(dlog, 1, name, NULL, &answer) == 0 && answer.kind == kind);
 }
 
-static int log_item(struct dlog *dlog, const char *name, const char *text)
+int log_item(struct dlog *dlog, const char *name, const char *text)
 {
     struct dlog_answer answer = { 0 };
     struct dlog_bytes item = bytes_of(text);
@@ -36,7 +37,7 @@ static int log_item(struct dlog *dlog, const char *name, const char *text)
 }
 
 /* How many items a log has, by chunks of so many. */
-static int count_items(struct dlog *dlog, const char *name)
+int count_items(struct dlog *dlog, const char *name)
 {
     struct dlog_answer answer;
     struct dlog_items items = { 0 };
@@ -89,7 +90,7 @@ static void a_signal_to_the_group(const char *parent)
         CHECK(dlog_start_with(&dlog, program, folder, &patient) == 0);
         open_log(&dlog, "kept", DLOG_OPENED);
         CHECK(count_items(&dlog, "kept") == MANY);
-        CHECK(signals[i] == SIGKILL || kill(dlog.process, signals[i]) == 0);
+        CHECK(signals[i] == SIGKILL || kill(dlog_process(&dlog), signals[i]) == 0);
         CHECK(log_item(&dlog, "kept", "later") == 0);
         CHECK(dlog_stop(&dlog) == 0);
     }
@@ -108,16 +109,51 @@ static void a_killed_server(const char *parent)
 
         CHECK(dlog_start(&dlog, program, folder) == 0);
         open_log(&dlog, "busy", is_busy ? DLOG_REPAIRED : DLOG_OPENED);
-        CHECK(kill(dlog.process, is_busy ? SIGSTOP : SIGKILL) == 0);
+        CHECK(kill(dlog_process(&dlog), is_busy ? SIGSTOP : SIGKILL) == 0);
         for (int i = 0; i < 2 && is_busy; i++)
             CHECK(dlog_send_sync(&dlog, 1, "busy", &tags[i]) == 0 && dlog_flush(&dlog) == 0);
-        CHECK(!is_busy || kill(dlog.process, SIGKILL) == 0);
+        CHECK(!is_busy || kill(dlog_process(&dlog), SIGKILL) == 0);
         CHECK(!is_busy || dlog_answer(&dlog, tags[1], &answer) == DLOG_GONE);
         while (fault == 0)
             fault = log_item(&dlog, "busy", "item");
         CHECK(fault == DLOG_GONE && strstr(dlog_error(&dlog), "status 137") != NULL);
         CHECK(dlog_stop(&dlog) == 128 + SIGKILL);
     }
+}
+
+/* The lowest descriptor that is free. */
+static int lowest_free(void)
+{
+    int lowest = dup(0);
+
+    CHECK(lowest >= 0 && close(lowest) == 0);
+    return lowest;
+}
+
+/* A start with too few descriptors says so, and leaves none open. */
+static void too_few_descriptors(const char *folder)
+{
+    struct rlimit whole, few;
+    int lowest = lowest_free(), exhausted = 0;
+
+    CHECK(getrlimit(RLIMIT_NOFILE, &whole) == 0);
+    few = whole;
+    for (int most = 0; most < lowest + 12; most++) {
+        struct dlog dlog;
+        int fault;
+
+        few.rlim_cur = (rlim_t)most;
+        CHECK(setrlimit(RLIMIT_NOFILE, &few) == 0);
+        fault = dlog_start(&dlog, program, folder);
+        CHECK(setrlimit(RLIMIT_NOFILE, &whole) == 0);
+        if (fault == 0)
+            CHECK(dlog_stop(&dlog) == 0);
+        else
+            CHECK(fault == DLOG_GONE || strstr(dlog_error(&dlog), "Too many open files") != NULL);
+        exhausted += fault == DLOG_EXHAUSTED;
+        CHECK(lowest_free() == lowest);
+    }
+    CHECK(exhausted > 3);
 }
 
 static void why_it_does_not_start(const char *parent)
@@ -137,6 +173,7 @@ static void why_it_does_not_start(const char *parent)
     CHECK(dlog_start(&dlog, program, folder) == DLOG_GONE);
     CHECK(strstr(dlog_error(&dlog), "another program") != NULL);
     CHECK(dlog_stop(&other) == 0);
+    too_few_descriptors(folder);
 }
 
 static void what_no_server_reads(const char *parent)
@@ -157,6 +194,7 @@ static void what_no_server_reads(const char *parent)
     CHECK(strstr(dlog_error(&dlog), "1048577") != NULL);
     CHECK(dlog_log(&dlog, 1, "a", items, 16, &answer) == DLOG_INVALID);
     CHECK(strstr(dlog_error(&dlog), "16777216") != NULL);
+    CHECK(dlog_log(&dlog, 1, "a", items, 0, &answer) == DLOG_INVALID && strstr(dlog_error(&dlog), "at least one") != NULL);
     for (size_t i = 0; i < sizeof names / sizeof *names; i++) {
         struct dlog_options options = { .base = names[i] };
 
@@ -214,48 +252,62 @@ static void a_child_keeps_none(const char *parent)
     }
 }
 
-static struct {
+/* A thread: its part in the server, and its client and name. */
+struct writer {
+    pthread_t thread;
     struct dlog dlog;
-    pthread_mutex_t lock;
-} shared = { .lock = PTHREAD_MUTEX_INITIALIZER };
+    uint32_t client;
+    char name[16];
+};
 
-static void *write_shared(void *number)
+static void *write_shared(void *given)
 {
-    uint32_t tags[EACH];
+    struct writer *writer = given;
+    uint32_t tags[EACH], synced;
     struct dlog_answer answer;
-    struct dlog_bytes item = bytes_of(number);
+    struct dlog_bytes item = bytes_of(writer->name);
 
+    CHECK(dlog_open(&writer->dlog, writer->client, "shared", NULL, &answer) == 0 && answer.kind == DLOG_OPENED);
     for (int i = 0; i < EACH; i++) {
-        pthread_mutex_lock(&shared.lock);
-        CHECK(dlog_send_log(&shared.dlog, 1, "shared", &item, 1, &tags[i]) == 0);
-        CHECK(i % 10 > 0 || dlog_flush(&shared.dlog) == 0);
-        pthread_mutex_unlock(&shared.lock);
+        CHECK(dlog_send_log(&writer->dlog, writer->client, "shared", &item, 1, &tags[i]) == 0);
+        CHECK(i % 10 > 0 || dlog_flush(&writer->dlog) == 0);
     }
-    for (int i = EACH - 1; i >= 0; i--) {
-        pthread_mutex_lock(&shared.lock);
-        CHECK(dlog_answer(&shared.dlog, tags[i], &answer) == 0);
-        CHECK(answer.tag == tags[i] && answer.kind == DLOG_DONE);
-        pthread_mutex_unlock(&shared.lock);
-    }
+    CHECK(dlog_send_sync(&writer->dlog, writer->client, "shared", &synced) == 0);
+    for (int i = EACH - 1; i >= 0; i--)
+        CHECK(dlog_answer(&writer->dlog, tags[i], &answer) == 0 && answer.tag == tags[i] && answer.kind == DLOG_DONE);
+    CHECK(dlog_answer(&writer->dlog, synced, &answer) == 0 && answer.kind == DLOG_DONE);
+    for (int i = 0; i < EACH; i++)
+        CHECK(dlog_log(&writer->dlog, writer->client, "shared", &item, 1, &answer) == 0 && answer.kind == DLOG_DONE);
+    CHECK(count_items(&writer->dlog, "shared") >= 2 * EACH);
+    dlog_detach(&writer->dlog);
+    CHECK(log_item(&writer->dlog, "shared", "late") == DLOG_GONE);
     return NULL;
 }
 
 static void threads_share(const char *parent)
 {
-    static char names[THREADS][16];
-    pthread_t threads[THREADS];
+    static struct writer writers[THREADS];
+    struct dlog dlog, late;
     char folder[4096];
 
-    CHECK(dlog_start_with(&shared.dlog, program, make(folder, parent, "shared"), &patient) == 0);
-    open_log(&shared.dlog, "shared", DLOG_OPENED);
-    for (int i = 0; i < THREADS; i++) {
-        snprintf(names[i], sizeof names[i], "%d", i);
-        CHECK(pthread_create(&threads[i], NULL, write_shared, names[i]) == 0);
+    CHECK(dlog_start_with(&dlog, program, make(folder, parent, "shared"), &patient) == 0);
+    open_log(&dlog, "shared", DLOG_OPENED);
+    for (uint32_t i = 0; i < THREADS; i++) {
+        struct writer *writer = &writers[i];
+
+        writer->client = i + 1;
+        snprintf(writer->name, sizeof writer->name, "%u", i);
+        CHECK(dlog_attach(&writer->dlog, &dlog) == 0);
+        CHECK(pthread_create(&writer->thread, NULL, write_shared, writer) == 0);
     }
     for (int i = 0; i < THREADS; i++)
-        CHECK(pthread_join(threads[i], NULL) == 0);
-    CHECK(count_items(&shared.dlog, "shared") == THREADS * EACH);
-    CHECK(dlog_stop(&shared.dlog) == 0);
+        CHECK(pthread_join(writers[i].thread, NULL) == 0);
+    CHECK(count_items(&dlog, "shared") == THREADS * 2 * EACH);
+    CHECK(dlog_attach(&late, &dlog) == 0);
+    CHECK(dlog_stop(&dlog) == 0);
+    CHECK(log_item(&late, "shared", "late") == DLOG_GONE);
+    CHECK(dlog_stop(&late) == 0 && log_item(&late, "shared", "late") == DLOG_GONE);
+    CHECK(dlog_attach(&dlog, &late) == DLOG_GONE);
 }
 
 static void its_time_limit(const char *parent)
@@ -268,15 +320,15 @@ static void its_time_limit(const char *parent)
 
     CHECK(dlog_start(&dlog, program, make(folder, parent, "late")) == 0);
     open_log(&dlog, "a", DLOG_OPENED);
-    CHECK(kill(dlog.process, SIGSTOP) == 0);
+    CHECK(kill(dlog_process(&dlog), SIGSTOP) == 0);
     dlog_set_timeout(&dlog, SHORT);
     CHECK(log_item(&dlog, "a", "late") == DLOG_TIMED_OUT);
     CHECK(dlog_log(&dlog, 1, "a", &large, 1, &answer) == DLOG_TIMED_OUT);
-    CHECK(kill(dlog.process, SIGCONT) == 0);
+    CHECK(kill(dlog_process(&dlog), SIGCONT) == 0);
     dlog_set_timeout(&dlog, PATIENCE);
     CHECK(log_item(&dlog, "a", "last") == 0);
     CHECK(count_items(&dlog, "a") == 3);
-    CHECK(kill(dlog.process, SIGSTOP) == 0);
+    CHECK(kill(dlog_process(&dlog), SIGSTOP) == 0);
     dlog_set_timeout(&dlog, SHORT);
     CHECK(dlog_stop(&dlog) == DLOG_TIMED_OUT);
     dlog_kill(&dlog);
@@ -346,27 +398,6 @@ static void waits_for_its_folder(const char *parent)
     CHECK(dlog_stop(&second) == 0 && pthread_join(stops, NULL) == 0);
 }
 
-static void a_loss_at_the_stop(const char *parent)
-{
-    static uint8_t zeros[100000];
-    struct dlog dlog;
-    struct dlog_answer answer;
-    struct dlog_bytes item = { zeros, sizeof zeros };
-    struct dlog_settings settings = { .blocks = 256 };
-    char folder[4096], full[5000];
-    FILE *script;
-
-    make(folder, parent, "loss");
-    snprintf(full, sizeof full, "%s/full", folder);
-    CHECK((script = fopen(full, "w")) != NULL);
-    fprintf(script, "#!/bin/sh\nulimit -f 8\ntrap '' XFSZ\nexec '%s' \"$@\"\n", program);
-    CHECK(fclose(script) == 0 && chmod(full, 0700) == 0);
-    CHECK(dlog_start_with(&dlog, full, folder, &settings) == 0);
-    open_log(&dlog, "a", DLOG_OPENED);
-    CHECK(dlog_log(&dlog, 1, "a", &item, 1, &answer) == 0 && answer.kind == DLOG_DONE);
-    CHECK(dlog_stop(&dlog) == 1 && strstr(dlog_error(&dlog), "is lost") != NULL);
-}
-
 const struct scenario ends[] = {
     { "a signal to the group spares the server", a_signal_to_the_group },
     { "a killed server is reported to each caller", a_killed_server },
@@ -379,6 +410,5 @@ const struct scenario ends[] = {
     { "a place outlives its server", a_place_outlives },
     { "a server that has ended starts again", starts_again },
     { "a server waits for its folder", waits_for_its_folder },
-    { "a loss at the stop is an error", a_loss_at_the_stop },
     { NULL, NULL },
 };

@@ -7,6 +7,7 @@
 -define(MANY, 1000).
 -define(PATIENCE, 60000).
 -define(SHORT, 200).
+-define(LIMIT, 500).
 
 all() ->
     [{"a signal to the group spares the server", fun group/1}, {"a killed server is reported to each caller", fun killed/1},
@@ -14,7 +15,9 @@ all() ->
      {"two servers of one program end alone", fun alone/1}, {"a child keeps no server open", fun child/1},
      {"threads share a server", fun shared/1}, {"a call ends at its time limit", fun limit/1},
      {"a place outlives its server", fun place/1}, {"a server that has ended starts again", fun again/1},
-     {"a server waits for its folder", fun waits/1}, {"a loss at the stop is an error", fun loss/1}].
+     {"a server waits for its folder", fun waits/1},
+     {"a server of another version is refused", fun version/1}, {"many logs are synced by one call", fun at_once/1},
+     {"a full device is an error until it has room", fun full/1}, {"a loss at the stop is an error", fun loss/1}].
 
 %% The processes of the servers.
 programs() ->
@@ -157,7 +160,9 @@ shared(File) ->
     [receive {'DOWN', Monitor, process, _, Why} -> normal = Why after ?PATIENCE -> error(waits) end || {_, Monitor} <- Writers].
 
 limit(File) ->
-    Limited = [{name, a}, {file, File("a")}, {timeout, ?SHORT}],
+    Limited = [{name, a}, {file, File("a")}, {timeout, ?LIMIT}],
+    %% A limit holds for the open too, and the start of a server may take longer.
+    {ok, a} = dlog:open(lists:keydelete(timeout, 1, Limited)),
     {ok, a} = dlog:open(Limited),
     [Program] = programs(),
     ok = signal("STOP", Program),
@@ -214,14 +219,63 @@ waits(File) ->
     {_, Monitor} = Opens,
     receive {'DOWN', Monitor, process, _, Why} -> normal = Why after ?PATIENCE -> error(waits) end.
 
-loss(File) ->
-    Full = File("full"),
-    Program = os:getenv("DLOG_PROGRAM"),
-    ok = file:write_file(Full, ["#!/bin/sh\nulimit -f 8\ntrap '' XFSZ\nexec '", Program, "' \"$@\"\n"]),
-    ok = file:change_mode(Full, 8#700),
-    application:set_env(dlog, program, Full),
-    {ok, a} = dlog:open([{name, a}, {file, File("a")}]),
+version(File) ->
+    Hello = "\\0\\0\\0\\024\\0\\0\\0\\1\\0\\0\\011\\1\\0\\0\\0\\0\\0\\4\\0\\4dlog",
+    application:set_env(dlog, program, write_program(File("other"), ["printf '", Hello, "'\nexec cat >/dev/null\n"])),
+    {error, {dlog_not_started, Words}} = dlog:open([{name, a}, {file, File("a")}]),
     application:unset_env(dlog, program),
+    true = string:find(Words, "version 9") =/= nomatch.
+
+write_program(Path, Lines) ->
+    ok = file:write_file(Path, ["#!/bin/sh\n", Lines]),
+    ok = file:change_mode(Path, 8#700),
+    Path.
+
+%% Opens logs by a program whose files become no longer than 4,096 bytes, until its soft limit is raised.
+open_limited(File, Blocks, Logs) ->
+    Program = os:getenv("DLOG_PROGRAM"),
+    Full = write_program(File("full"), ["ulimit -S -f 8\nexec '", Program, "' \"$@\"\n"]),
+    [application:set_env(dlog, Key, Value) || {Key, Value} <- [{program, Full}, {blocks, Blocks}]],
+    [{ok, Log} = dlog:open([{name, Log}, {file, File(atom_to_list(Log))}]) || Log <- Logs],
+    [application:unset_env(dlog, Key) || Key <- [program, blocks]].
+
+at_once(File) ->
+    open_limited(File, 16, [a, b]),
+    [ok, ok] = [dlog:blog(a, binary:copy(<<"x">>, 10000)), dlog:blog(b, <<"has room">>)],
+    Full = filename:absname(File("a")) ++ ".log",
+    {error, {not_synced, [{a, {file_error, Full, eio}}]}} = dlog:sync_all(),
+    {error, {not_synced, [{a, {file_error, Full, eio}}, {missing, no_such_log}]}} = dlog:sync_all([a, b, missing, a]),
+    {error, {not_synced, [{missing, no_such_log}, {a, {file_error, Full, eio}}]}} = dlog:sync_all([missing, b, a]),
+    [Program] = programs(),
+    "" = os:cmd("prlimit --pid " ++ integer_to_list(Program) ++ " --fsize=unlimited"),
+    ok = dlog:sync_all(),
+    ok = dlog:sync_all([]).
+
+full(File) ->
+    open_limited(File, 1, [a, b]),
+    Full = filename:absname(File("a")) ++ ".log",
+    {Taken, {file_error, Full, eio}} = fill(a, 0),
+    {0, {file_error, Full, eio}} = fill(a, 0),
+    [ok, ok] = [dlog:blog(b, <<"has room">>), dlog:sync(b)],
+    [Program] = programs(),
+    "" = os:cmd("prlimit --pid " ++ integer_to_list(Program) ++ " --fsize=unlimited"),
+    [ok, ok] = [dlog:blog(a, <<"last">>), dlog:sync(a)],
+    ok = dlog:stop(),
+    {ok, a} = dlog:open([{name, a}, {file, File("a")}]),
+    Items = bytes(a, dlog:bchunk(a, start), []),
+    <<"last">> = lists:last(Items),
+    true = Taken > 0 andalso length(Items) > Taken.
+
+%% Logs items and syncs each until one is refused: how many were taken, and why the last was not.
+fill(Log, Taken) when Taken < ?MANY ->
+    case {dlog:blog(Log, binary:copy(<<"x">>, 500)), dlog:sync(Log)} of
+        {ok, ok} -> fill(Log, Taken + 1);
+        {{error, Why}, _} -> {Taken, Why};
+        {ok, {error, Why}} -> {Taken, Why}
+    end.
+
+loss(File) ->
+    open_limited(File, 256, [a]),
     ok = dlog:blog(a, binary:copy(<<"x">>, 100000)),
     {error, {not_written, [_]}} = dlog:stop().
 

@@ -1,9 +1,9 @@
 """Scenarios of how a server starts and ends, by the Python client, and of threads that share one."""
 import os
+import resource
 import signal
 import subprocess
 import sys
-import tempfile
 import threading
 
 sys.path.insert(0, os.path.join(os.path.dirname(os.path.abspath(__file__)), "..", "python"))
@@ -81,6 +81,10 @@ def a_killed_server_is_reported_to_each_caller(program, folder):
     assert raised(dlog.Gone, lambda: [log.info() for _ in iter(int, 1)]).status == -signal.SIGKILL
 
 
+def descriptors():
+    return len(os.listdir("/proc/self/fd"))
+
+
 def a_server_reports_why_it_does_not_start(program, folder):
     missing = os.path.join(folder, "missing")
     assert "no such program" in str(raised(dlog.NotStarted, dlog.Server, folder, missing))
@@ -90,6 +94,18 @@ def a_server_reports_why_it_does_not_start(program, folder):
         in_use = raised(dlog.NotStarted, dlog.Server, folder, program)
         assert in_use.status == 1 and "another program" in str(in_use), in_use
     assert raised(dlog.NotStarted, dlog.Server, folder, program, blocks="many").status == 2
+    own, (soft, hard) = descriptors(), resource.getrlimit(resource.RLIMIT_NOFILE)
+    words = set()
+    for most in range(own - 1, own + 12):
+        resource.setrlimit(resource.RLIMIT_NOFILE, (most, hard))
+        try:
+            dlog.Server(folder, program).stop()
+        except dlog.NotStarted as error:
+            words.add(str(error).rsplit(": ", 1)[-1])
+        finally:
+            resource.setrlimit(resource.RLIMIT_NOFILE, (soft, hard))
+        assert descriptors() == own, most
+    assert "[Errno 24] Too many open files" in words, words
 
 
 def a_client_refuses_what_no_server_reads(program, folder):
@@ -103,6 +119,8 @@ def a_client_refuses_what_no_server_reads(program, folder):
             raised(dlog.Invalid, client.open, name)
             raised(dlog.Invalid, client.open, "b", base=name)
         raised(dlog.Invalid, server.client, -1)
+        for call in (log.log, log.alog, log.send_log, log.log_synced):
+            assert "at least one" in str(raised(dlog.Invalid, call))
         log.log(*[longest] * 15)
         assert list(log) == [longest] * 15
 
@@ -198,11 +216,22 @@ def a_server_that_has_ended_starts_again(program, folder):
         server.kill()
         assert raised(dlog.Gone, server.answer, sent).may_be_done
         assert not raised(dlog.Gone, halt.log, b"lost").may_be_done
+        assert not raised(dlog.Gone, halt.log_synced, b"lost").may_be_done
         again = server.restart(wait=PATIENCE)
         assert [(it.client, it.log) for it in again] == [(7, "halt"), (7, "ring")], again
         assert not any(isinstance(it.outcome, dlog.Error) for it in again), again
         assert list(halt) == [b"kept"] and halt.info().size == 2000
         assert ring.info().owners == [(7, True)]
+        halt.log_synced(b"synced")
+        os.kill(server.pid, signal.SIGSTOP)
+        sent = [halt.send_log(b"sent") for _ in range(9)]
+        server.kill()
+        server.restart(wait=PATIENCE)
+        later = [halt.send_sync() for _ in range(99)]
+        for tag in sent:
+            assert raised(dlog.Gone, server.answer, tag).may_be_done
+        assert [server.answer(tag) for tag in later] == [None] * 99 and list(halt) == [b"kept", b"synced"]
+        raised(KeyError, server.answer, sent[0])
 
 
 def a_server_waits_for_its_folder(program, folder):
@@ -213,24 +242,6 @@ def a_server_waits_for_its_folder(program, folder):
     with dlog.Server(folder, program, wait=PATIENCE) as second:
         second.client(1).open("a").log(b"first")
     timer.join()
-
-
-def a_loss_at_the_stop_is_an_error(program, folder):
-    def lose():
-        with dlog.Server(folder, program) as server:
-            server.client(1).open("a").log(b"lost")
-            os.kill(server.pid, signal.SIGKILL)
-
-    assert raised(dlog.Gone, lose).status == -signal.SIGKILL
-    with tempfile.TemporaryDirectory() as room:
-        full = os.path.join(room, "full")
-        with open(full, "w", encoding="ascii") as file:
-            file.write(f"#!/bin/sh\nulimit -f 8\ntrap '' XFSZ\nexec '{program}' \"$@\"\n")
-        os.chmod(full, 0o755)
-        server = dlog.Server(folder, full, blocks=256)
-        server.client(1).open("b").log(b"x" * 100_000)
-        gone = raised(dlog.Gone, server.stop)
-        assert gone.status == 1 and "is lost" in gone.words, gone
 
 
 SCENARIOS = (
@@ -245,5 +256,4 @@ SCENARIOS = (
     a_place_outlives_its_server,
     a_server_that_has_ended_starts_again,
     a_server_waits_for_its_folder,
-    a_loss_at_the_stop_is_an_error,
 )

@@ -4,7 +4,6 @@ use crate::{all, Outcome, Place};
 use dlog::{Error, Log, Options, Reply, Server, Settings, ITEM_LIMIT};
 use std::fs;
 use std::io::{Read, Write};
-use std::os::unix::fs::PermissionsExt;
 use std::os::unix::process::{CommandExt, ExitStatusExt};
 use std::path::Path;
 use std::process::{Command, ExitStatus, Stdio};
@@ -13,6 +12,7 @@ use std::thread;
 use std::time::Duration;
 
 const MANY: usize = 1000;
+const ROUNDS: usize = 100;
 const SHORT: Duration = Duration::from_millis(200);
 const PATIENCE: Duration = Duration::from_secs(60);
 const KILLED: i32 = 9;
@@ -38,7 +38,7 @@ fn signal(name: &str, process: &str) {
 }
 
 /// How the server ended of which a call reports it.
-fn end_of<T>(result: Result<T, Error>) -> (Option<ExitStatus>, String, bool) {
+pub fn end_of<T>(result: Result<T, Error>) -> (Option<ExitStatus>, String, bool) {
     match result {
         Err(Error::Gone(ended)) => (ended.status, ended.words, ended.may_be_done),
         Err(error) => panic!("{error}"),
@@ -131,7 +131,7 @@ fn a_server_reports_why_it_does_not_start(place: &Place) -> Outcome {
     let missing = place.folder.join("missing");
     let no_program = Server::start(&missing, &place.folder);
     assert!(
-        matches!(no_program, Err(Error::Start(error)) if error.kind() == std::io::ErrorKind::NotFound)
+        matches!(no_program, Err(Error::Start(error)) if error.kind() == std::io::ErrorKind::NotFound && error.to_string().contains("missing"))
     );
     let (status, words, _) = end_of(Server::start(&place.program, &missing));
     assert!(
@@ -159,6 +159,10 @@ fn a_client_refuses_what_no_server_reads(place: &Place) -> Outcome {
     let refused = |result: Result<Reply, Error>, why: &str| matches!(result, Err(Error::Invalid(words)) if words.contains(why));
     assert!(refused(server.log(&log, &[&longer]), "1048577"));
     assert!(refused(server.log(&log, &vec![&longest; 16]), "16777216"));
+    assert!(refused(server.log(&log, &[] as &[&str]), "at least one"));
+    assert!(
+        matches!(server.alog(&log, &[] as &[&str]), Err(Error::Invalid(words)) if words.contains("at least one"))
+    );
     for name in ["", "a b", "a/b", "\u{e4}", &"x".repeat(65)] {
         assert!(refused(
             server.open(&Log::new(1, name), &Options::default()),
@@ -220,7 +224,24 @@ fn threads_share_a_server(place: &Place) -> Outcome {
     threads
         .into_iter()
         .try_for_each(|it| it.join().expect("a thread ends"))?;
+    (0..ROUNDS).try_for_each(|_| short_lives(&server))?;
     server.stop()
+}
+
+/// Threads that end soon: whichever reads last, none is left that waits and nobody reads for.
+fn short_lives(server: &Server) -> Outcome {
+    let live = |client| {
+        move || -> Outcome {
+            let log = Log::new(client, "shared");
+            (0..20).try_for_each(|_| server.log(&log, &["short"]).map(drop))
+        }
+    };
+    thread::scope(|scope| {
+        let threads: Vec<_> = (1..9).map(|client| scope.spawn(live(client))).collect();
+        threads
+            .into_iter()
+            .try_for_each(|it| it.join().expect("a thread ends"))
+    })
 }
 
 fn a_call_ends_at_its_time_limit(place: &Place) -> Outcome {
@@ -308,30 +329,6 @@ fn a_server_waits_for_its_folder(place: &Place) -> Outcome {
     second.stop()
 }
 
-fn a_loss_at_the_stop_is_an_error(place: &Place) -> Outcome {
-    let log = Log::new(1, "a");
-    let full = place.folder.join("full");
-    let program = place.program.display();
-    fs::write(
-        &full,
-        format!("#!/bin/sh\nulimit -f 8\ntrap '' XFSZ\nexec '{program}' \"$@\"\n"),
-    )?;
-    fs::set_permissions(&full, PermissionsExt::from_mode(0o700))?;
-    let settings = Settings {
-        blocks: 256,
-        ..Settings::default()
-    };
-    let server = Server::start_with(&full, &place.folder, &settings)?;
-    server.open(&log, &Options::default())?;
-    server.log(&log, &[[b'x'; 100_000]])?;
-    let (status, words, _) = end_of(server.stop());
-    assert!(
-        status.and_then(|it| it.code()) == Some(1) && words.contains("is lost"),
-        "{words}"
-    );
-    Ok(())
-}
-
 pub const SCENARIOS: &[(&str, fn(&Place) -> Outcome)] = &[
     (
         "a signal to the group spares the server",
@@ -367,9 +364,5 @@ pub const SCENARIOS: &[(&str, fn(&Place) -> Outcome)] = &[
     (
         "a server waits for its folder",
         a_server_waits_for_its_folder,
-    ),
-    (
-        "a loss at the stop is an error",
-        a_loss_at_the_stop_is_an_error,
     ),
 ];

@@ -264,5 +264,6 @@ int main(int count, char **words)
     program = words[1];
     run(scenarios, words[2]);
     run(ends, words[2]);
+    run(devices, words[2]);
     return 0;
 }

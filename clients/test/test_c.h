@@ -30,7 +30,17 @@ struct scenario {
     void (*run)(const char *parent);
 };
 
-/* The scenarios of how a server starts and ends, up to one without a name. */
+/* The scenarios of how a server starts and ends, and of devices, each up to one without a name. */
 extern const struct scenario ends[];
+extern const struct scenario devices[];
+
+/* Makes a folder for a scenario, and returns its path. */
+const char *make(char *folder, const char *parent, const char *name);
+
+/* Calls that have to succeed, of client 1: an open that is answered so, a log of a text, which may also meet a fault, and how many
+ * items a log has. */
+void open_log(struct dlog *dlog, const char *name, uint8_t kind);
+int log_item(struct dlog *dlog, const char *name, const char *text);
+int count_items(struct dlog *dlog, const char *name);
 
 #endif

@@ -6,6 +6,7 @@ import time
 
 sys.path.insert(0, os.path.join(os.path.dirname(os.path.abspath(__file__)), "..", "python"))
 import dlog  # noqa: E402
+import devices_python  # noqa: E402
 import ends_python  # noqa: E402
 
 PROGRAM = sys.argv[1]
@@ -26,7 +27,7 @@ def refusal(call, *arguments):
 
 def items_come_back_in_order(folder):
     with serve(folder) as server:
-        assert server.hello == (2, 16777216, 1024, "dlog"), server.hello
+        assert server.hello == (3, 16777216, 1024, "dlog"), server.hello
         log = server.client(1).open("words")
         log.log(b"first", b"second", b"")
         assert list(log) == [b"first", b"second", b""]
@@ -178,5 +179,5 @@ def run(scenario, *arguments):
 
 for each in SCENARIOS:
     run(each)
-for each in ends_python.SCENARIOS:
+for each in ends_python.SCENARIOS + devices_python.SCENARIOS:
     run(each, PROGRAM)

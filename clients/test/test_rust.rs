@@ -1,5 +1,7 @@
 //! The scenarios of the clients, by the Rust client. Words: the program, and an empty folder.
 
+#[path = "devices_rust.rs"]
+mod devices;
 #[path = "ends_rust.rs"]
 mod ends;
 
@@ -303,7 +305,12 @@ fn main() -> Outcome {
     {
         return ends::be_ended(program, folder);
     }
-    for (number, (name, run)) in SCENARIOS.iter().chain(ends::SCENARIOS).enumerate() {
+    for (number, (name, run)) in SCENARIOS
+        .iter()
+        .chain(ends::SCENARIOS)
+        .chain(devices::SCENARIOS)
+        .enumerate()
+    {
         let folder = Path::new(&words[2]).join(number.to_string());
         std::fs::create_dir(&folder)?;
         run(&Place {

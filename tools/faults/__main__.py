@@ -34,18 +34,22 @@ the files what the trace says, so that each line is judged with the files as the
    with a wrong count. Files that went are removed where nothing failed.
 5. No line changes files under a base that is not one of its log, and no draft is left but where its removal failed.
 6. After a sync that was answered as done nothing of the log waits, each of its files is synced, and so are the names; each
-   put or new name comes after the bytes of the other files under its base and after earlier names, and an index before the
-   file it names last.
+   put or new name comes after the bytes of the other files under its base and after earlier names, but for names of new files
+   under other bases, and an index before the file it names last.
 7. If no call fails in the turns at the end, the last of them is idle.
 8. A new process reads from the files that are left just what they say.
+9. If a fault is answered, `run` says on standard error for which file which call failed, and why, each reason once; and nothing
+   else (`reasons.py`).
 
-Without --device a server is then served a few calls too, whose last writes fail (`served.py`). And lines are appended to logs
+Without --device a server is then served a few calls too, whose last writes fail (`served.py`), and clients whose syncs come
+together, of which one fails at the device (`together.py`), as many cases as --commands says. And lines are appended to logs
 (`appended.py`) and torn logs are repaired (`repaired.py`), as many of each as --commands says, each without a fault and then with
 --most. With `--scripts 0` these are run alone.
 """
 import argparse
 import os
 import random
+import re
 import shutil
 import sys
 import tempfile
@@ -56,9 +60,11 @@ import appended
 import commands
 import faults
 import place
+import reasons
 import repaired
 import scripts
 import served
+import together
 import traced
 from folder import Folder
 from judge import Judge
@@ -94,8 +100,12 @@ class Trials:
         return run, self.judged(script, run)
 
     def judged(self, script, run):
-        if run.told or len(run.answers) < len(script.lines):
-            return len(run.answers), f"the run did not end well: {run.told}"
+        failed = [call for step in run.steps for call in step if call.is_fault()]
+        wrong = reasons.why_not_said(run.told.splitlines(), self.folder, failed)
+        if wrong or len(run.answers) < len(script.lines):
+            return len(run.answers), wrong or f"the run did not end well: {run.told}"
+        if not run.told and any(re.search(r"\bE24\b|turn fault", answer) for answer in run.answers):
+            return len(script.lines), "a fault is answered, and its reason is not said"
         judge = Judge(Folder(script.texts))
         for at, line in enumerate(script.lines):
             wrong = judge.step(line, run.answers[at], run.steps[at])
@@ -182,6 +192,7 @@ def judge_others(trials, words):
     is wrong."""
     if words.device is None:
         yield "servers", *served.judge(trials.program, trials.scratch)
+        yield "servers of syncs", *together.judge(trials.program, trials.scratch, words.seed, words.commands, words.most)
     for what, module in (("appends", appended), ("repairs", repaired)):
         runs = commands.Trials(trials.program, trials.scratch, trials.folder, module.Judge)
         yield what, *runs.judged(module.case_of, words)

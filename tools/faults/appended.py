@@ -5,7 +5,8 @@ A log that is new, was closed or left open, or is torn is given lines, with or w
 1. Without a fault, or where each fault may be passed over, the log has all its items and is marked as closed, the status is 0,
    and nothing is told but a repair. Only a halt log that is full takes fewer, which is told.
 2. A fault that may not be passed over is told, with a file of a call that failed. The status is 0 only if all lines are in the
-   log, and it was closed by a later try; it is 3 only if nothing was done.
+   log, and it was closed by a later try; it is 3 only if nothing was done. A fault of the look that tells how many items the last
+   file was closed with may be passed over: the open reads the same again.
 3. A log has the items that it had and the first of the lines, whole and in order. Its older files are whole, and only a wrap
    log lacks its oldest ones, as far as it went round. Where lines were taken and are missing they waited in memory: the log is
    not closed then, and that is told. With syncs a line may be there that was not taken, since its sync failed: that is told.
@@ -24,7 +25,7 @@ from asked import item_of
 from commands import NAME
 from messages import FULL, IN_LOG, NO_ROOM, STAGES, told_of
 from stands import why_not_kept
-from texts import found_log
+from texts import count_of, found_log
 
 
 @dataclass
@@ -157,7 +158,16 @@ class Judge:
         expected = self.want.reply if self.want.reply != "opened" else None
         if told.repair != expected:
             return f"told {told.repair}, and not {expected}"
+        if told.repair and told.closed != self.closed_before() and not (told.closed is None and self.is_read_again()):
+            return f"told {told.closed} of the file that was closed, and not {self.closed_before()}"
         return reason or self.why_not_there() or self.why_not_durable()
+
+    def closed_before(self):
+        """Of the last file of a log that was closed with another number of items than it has, its part and that number."""
+        last = found_log(self.case.texts, NAME, self.case.kind).files[-1]
+        part = str(last.number or "log")
+        count = count_of(self.case.texts.get(f"{NAME}.{part}", b""))
+        return (part, count) if count not in (None, len(last.items)) else None
 
     def why_not_untouched(self):
         if not self.done.failed() or not self.done.said(0).startswith(f"dlog: {self.folder}: ") or len(self.done.told) > 1:
@@ -188,8 +198,16 @@ class Judge:
         if self.want.refusal:
             return f"all were taken, and it had to be refused: {self.want.refusal}"
         if told.finished is None:
-            return None if self.done.is_passed_over() else "a fault was passed over"
+            return None if self.done.is_passed_over() or self.is_read_again() else "a fault was passed over"
         return None if self.done.may_name(told.finished) else f"{told.finished} is told, and no call on it failed"
+
+    def is_read_again(self):
+        """Whether each fault was met at a read of what was read well too before anything was changed."""
+        calls = self.done.calls
+        first = next((at for at, call in enumerate(calls) if call.name in commands.CHANGING), len(calls))
+        before = calls[:first]
+        read = [(call.name, call.files) for call in before if call.answer >= 0]
+        return all(call in before and (call.name, call.files) in read for call in self.done.failed())
 
     def why_not_stopped(self):
         told, want = self.told, self.want

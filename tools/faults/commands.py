@@ -5,6 +5,7 @@ command says is never lost.
 """
 import os
 import random
+import re
 import signal
 import subprocess
 from dataclasses import dataclass
@@ -140,9 +141,12 @@ def dead(calls, first, error):
 
 
 def is_advice(line, folder, file, texts):
-    """Whether a command says this of a file that the system refused, as it looks at it once more. If the file is there it is
-    not said to be missing."""
+    """Whether a command says this of a file that the system refused: why the last call on a file under its base failed, or, where
+    it does not know that, what it sees as it looks at the file once more. If the file is there it is not said to be missing."""
     path = f"{folder}/{file}"
+    base = re.escape(f"{folder}/{file.split('.')[0]}")
+    if re.fullmatch(rf"{base}\.[a-z0-9]+: (?:{'|'.join(REASONS.values())}) \(os error \d+\): \S.*", line):
+        return True
     if line == f"{path} is not there, or could not be made: look at the rights of {folder} and the room on its device":
         return file not in texts
     if line == f"the system refused {path}: look at the room on its device, the limits of the process and the system's journal":

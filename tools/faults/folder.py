@@ -27,9 +27,12 @@ class Folder:
         self.lost = set()
         # The files that may have bytes of an item that was not written to its end.
         self.torn = set()
+        # Whether names that changed may not be durable but new ones, and the bases under which new ones may not be.
         self.owes_names = False
-        # The files that were written in this line.
+        self.begun = set()
+        # The files that were written in this line, and the names from which files were moved in it.
         self.written = set()
+        self.moved = set()
         self.wrong = []
 
     def texts(self):
@@ -39,7 +42,7 @@ class Folder:
 
     def line(self, calls):
         """What the calls of a line did."""
-        self.written = set()
+        self.written, self.moved = set(), set()
         for call in calls:
             self.apply(call)
 
@@ -119,12 +122,13 @@ class Folder:
             self.on_fdatasync(call)
         else:
             self.owes_names = False
+            self.begun = set()
 
     def check_names(self, call):
-        """Earlier changes of names come first, and an index before the file that it names last."""
-        if self.owes_names:
-            self.wrong.append(f"names are not durable before {call.title()}")
+        """Earlier changes of names come first, but for new names of other bases, and an index before the file that it names last."""
         base, part, *draft = call.files[0].split(".")
+        if self.owes_names or base in self.begun:
+            self.wrong.append(f"names are not durable before {call.title()}")
         if draft and part.isdigit():
             index = read_index(bytes(self.files[f"{base}.idx"].data))
             put = read_item_file(bytes(self.files[call.files[0]].data))
@@ -153,10 +157,14 @@ class Folder:
         if beside:
             self.wrong.append(f"not durable before {call.title()}: {' '.join(sorted(beside))}")
         self.check_names(call)
+        if is_put and new not in self.files and new not in self.moved:
+            self.begun.add(base)
+        else:
+            self.owes_names = True
+        self.moved |= set() if is_put else {old}
         self.files[new] = self.files.pop(old)
         for names in (self.dirty, self.lost, self.torn, self.foreign):
             names.discard(new)
             if old in names:
                 names.remove(old)
                 names.add(new)
-        self.owes_names = True

@@ -159,7 +159,7 @@ class Judge:
         return f"files of another log have changed: {' '.join(sorted(names))}" if names else None
 
     def why_not_durable(self, failed, calls):
-        """Whether names changed that were not made durable, though nothing failed."""
+        """Whether names changed that were not made durable, though nothing failed. Those of new files may wait."""
         has_changed = any(call.answer == 0 and call.name in ("rename", "unlink") for call in calls)
         return "the names of the folder were not made durable" if has_changed and self.folder.owes_names and not failed else None
 

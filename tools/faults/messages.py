@@ -2,7 +2,7 @@
 import re
 from dataclasses import dataclass
 
-REPAIRED = re.compile(r"dlog: a: repaired: (\d+) items kept, (\d+) bytes cut")
+REPAIRED = re.compile(r"dlog: a: repaired: (\d+) items kept, (\d+) bytes cut(?:; a\.(\S+) was closed with (\d+) items)?")
 FINISHED = re.compile(r"dlog: a: the device failed at (\S+) as the log was closed: it was tried again, and all was written")
 TAKEN = re.compile(r"dlog: a: (E\S+ \S+(?: \S+)?): (\d+) (line|item)s were taken, \3 (\d+) was not")
 ALL = re.compile(r"dlog: a: (E\S+ \S+(?: \S+)?): all (\d+) (?:line|item)s were taken, but (.*)")
@@ -21,12 +21,13 @@ MAY_BE = re.compile(r"(?:line|item) (\d+) may be in the log all the same: dlog c
 
 @dataclass
 class Told:
-    """What an append told: what it repaired, the file at which the first try to close the log failed if a later one did not, its
+    """What an append told: what it repaired, with how many items which file was closed, if that was another number, the file at which the first try to close the log failed if a later one did not, its
     refusal with how many items it took, or None if it told no number, and at which stage, whether the log was not closed, how many
     items are said to be on the device, in words and in a number, the item that may be in the log though it was not taken, and what
     else."""
 
     repair: str = None
+    closed: tuple = None
     finished: str = None
     refusal: str = None
     taken: int = None
@@ -57,6 +58,7 @@ def told_of(lines):
     told = Told()
     if lines and (match := REPAIRED.fullmatch(lines[0])):
         told.repair, lines = f"repaired {match[1]} {match[2]}", lines[1:]
+        told.closed = (match[3], int(match[4])) if match[3] else None
     if lines and (match := FINISHED.fullmatch(lines[0])):
         told.finished, lines = match[1], lines[1:]
     lines = taken_of(told, lines) if lines else lines

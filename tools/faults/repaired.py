@@ -2,6 +2,7 @@
 
 1. Without a fault, or where each fault may be passed over, the last file has its whole items and no bad bytes, and is marked as
    closed; what was cut is in the file that `--keep-bad` names; the status is 0. A log that needs no repair is left as it is.
+   Where the last file was closed with another number of items that is told first.
 2. A fault that may not be passed over is told, with a file of a call that failed. The status is 0 only if the log was repaired,
    and closed by a later try; it is 3 only if nothing was done.
 3. No item is lost, whatever failed, and no other file of the log changes. The last file has its items, all, some or none of the
@@ -18,7 +19,7 @@ import commands
 import scripts
 from commands import BAD_FILE, NAME
 from stands import why_not_kept
-from texts import found_log, frames, head_length, read_item_file
+from texts import count_of, found_log, frames, head_length, read_item_file
 
 REFUSED = re.compile(r"dlog: a: (E24 device_fault (\S+))")
 FINISHED = re.compile(r"dlog: a: the device failed at (\S+) as the log was closed: it was tried again, and all was written")
@@ -92,9 +93,18 @@ class Judge:
         amount = f"{len(self.kept.items)} items"
         plan = f"{NAME}: a repair keeps {amount} of the last file and cuts {self.kept.bad} bytes after them"
         done = f"{NAME}: repaired: {amount} kept, {self.kept.bad} bytes cut"
+        if out[:1] == self.noted():
+            out = out[1:]
+        elif self.noted() and not self.done.failed():
+            return f"written without the count: {out}"
         if out not in ([plan], [plan, done]):
             return f"written: {out}"
         return self.why_not_ended(out == [plan, done])
+
+    def noted(self):
+        """What is written first where the last file was closed with another number of items than it has."""
+        count, has = count_of(self.case.texts.get(self.last, b"")), len(self.kept.items)
+        return [f"{self.last} miscounted: it was closed with {count} items and has {has}"] if count not in (None, has) else []
 
     def why_others_changed(self):
         """Whether items are lost, or a file has changed that is not the last one."""

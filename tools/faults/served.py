@@ -3,8 +3,9 @@
 A client opens two logs and logs items that wait in the cache, and its stream ends. Of the writes that follow one fails, or all
 from one on:
 
-1. Where one write fails, nothing is said, the status is 0, and each log has all its items: the turn is made again.
-2. Where all fail from one on, the status is 1, and one line tells the log at which the turns came to no end.
+1. Where one write fails, its reason is said, the status is 0, and each log has all its items: the turn is made again.
+2. Where all fail from one on, the status is 1, their reasons are said, and one line tells the log at which the turns came to no
+   end.
 3. What a log has is a front of the items that were answered as done, whole and in order, whatever failed.
 """
 import os
@@ -16,6 +17,7 @@ TOP = os.path.dirname(os.path.dirname(os.path.dirname(os.path.realpath(__file__)
 sys.path.append(f"{TOP}/clients/python")
 
 import dlog
+import reasons
 
 LOGS = {"one": (None, [b"x" * 9_000, b"y" * 300, b"z"]), "two": ((5_000, 3), [b"u" * 4_000, b"v" * 10])}
 LOST = re.compile(
@@ -68,15 +70,27 @@ def left(program, folder):
     return found
 
 
-def wrong_of(status, told, found, is_once):
+def is_said(told, folder, error):
+    """Whether these lines are the reasons of writes that failed so, and there are some."""
+    said = [reasons.FAILED.fullmatch(line) for line in told[::2]]
+    return bool(said) and len(told) % 2 == 0 and all(
+        match and match[1] == folder and match[4] == reasons.text_of(error) and reasons.SAFE.fullmatch(advice)
+        for match, advice in zip(said, told[1::2])
+    )
+
+
+def wrong_of(status, told, found, folder, is_once):
     """Why a run is wrong, or None."""
+    lines = told.splitlines(keepends=True)
     whole = {name: items for name, (_size, items) in LOGS.items()}
     for name, items in found.items():
         if items is None or items != whole[name][: len(items)]:
             return f"{name} has other items: {items and [len(it) for it in items]}"
     if is_once:
-        return None if (status, told, found) == (0, "", whole) else f"a fault that passes: status {status}, {told!r}, {found != whole}"
-    return None if status == 1 and LOST.fullmatch(told) else f"a device that is gone: status {status}, {told!r}"
+        is_well = (status, found) == (0, whole) and is_said(told.splitlines(), folder, "EIO")
+        return None if is_well else f"a fault that passes: status {status}, {told!r}, {found != whole}"
+    is_well = status == 1 and lines and LOST.fullmatch(lines[-1]) and is_said("".join(lines[:-1]).splitlines(), folder, "ENOSPC")
+    return None if is_well else f"a device that is gone: status {status}, {told!r}"
 
 
 def judge(program, scratch):
@@ -84,13 +98,13 @@ def judge(program, scratch):
     folder = f"{scratch}/served"
     os.makedirs(folder, exist_ok=True)
     before, after, status, told = serve(program, scratch, folder, None)
-    if (status, told) != (0, "") or wrong_of(0, "", left(program, folder), True):
+    if (status, told) != (0, "") or left(program, folder) != {name: items for name, (_size, items) in LOGS.items()}:
         return 1, [f"without a fault: status {status}, {told!r}"]
     runs, wrong = 1, []
     for at in range(before + 1, after + 1):
         for text, is_once in ((f"pwrite64:error=EIO:when={at}", True), (f"pwrite64:error=ENOSPC:when={at}+", False)):
             _before, _after, status, told = serve(program, scratch, folder, text)
-            reason = wrong_of(status, told, left(program, folder), is_once)
+            reason = wrong_of(status, told, left(program, folder), folder, is_once)
             runs += 1
             if reason:
                 wrong.append(f"{text}: {reason}")

@@ -133,7 +133,7 @@ def why_not_synced(log, folder):
     late = [name for name in log.names() if name in folder.dirty | folder.foreign]
     if late:
         return f"synced, and not durable: {' '.join(late)}"
-    if folder.owes_names:
+    if folder.owes_names or folder.begun:
         return "synced, and the names of the folder are not durable"
     if log.owed or waiting(log, folder.texts()):
         return f"synced, and bytes of {log.name} wait"

@@ -56,7 +56,7 @@ from sittings import Sittings
 from truth import Told, all_found, all_sure
 
 # The syncs that may be left out of a record, each with the number of a script behind which a loss is soon seen.
-PLANTS = {"rolls": 0, "asked": 0, "cuts": 1016, "drafts": 0, "names": 0}
+PLANTS = {"rolls": 0, "asked": 0, "cuts": 479, "drafts": 0, "names": 0}
 # How many states are judged of each cut.
 STATES_OF_CUT = 3
 MOST_SCRIPTS_OF_SELF_TEST = 40

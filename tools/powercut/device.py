@@ -90,7 +90,7 @@ class Device:
         self.files = {number: Inode(bytearray(texts[name])) for number, name in enumerate(sorted(texts))}
         self.names = {name: number for number, name in enumerate(sorted(texts))}
         self.later = []
-        # The bases from which files were moved.
+        # The names from which files were moved.
         self.moved = set()
 
     def add(self, place, change):
@@ -103,7 +103,7 @@ class Device:
             self.files.setdefault(change.file, Inode())
             self.later.append((place, change))
             if change.kind == "rename" and not change.names[0].endswith(".new"):
-                self.moved.add(change.names[0].split(".")[0])
+                self.moved.add(change.names[0])
         elif change.kind in ("write", "cut"):
             self.files[change.file].later.append((place, change))
         else:
@@ -118,8 +118,7 @@ class Device:
         names, new = dict(self.names), set()
         for place, change in self.later:
             target = change.names[-1]
-            base, part = target.split(".")[:2]
-            may_begin = base not in self.moved or part.isdigit()
+            may_begin = target not in self.moved or target.split(".")[1].isdigit()
             if change.kind == "rename" and target not in names and place >= before and may_begin:
                 new.add(target)
             rename(names, change)

@@ -1,7 +1,7 @@
 %% The calls of disk_log, over `dlog serve`.
 -module(dlog).
 
--export([open/1, close/1, lclose/1, lclose/2, all/0, accessible_logs/0, info/1, sync/1, format_error/1, stop/0, stop/1]).
+-export([open/1, close/1, lclose/1, lclose/2, all/0, accessible_logs/0, pid2name/1, info/1, sync/1, sync_all/0, sync_all/1, format_error/1, stop/0, stop/1]).
 -export([log/2, log_terms/2, alog/2, alog_terms/2, blog/2, blog_terms/2, balog/2, balog_terms/2]).
 -export([chunk/2, chunk/3, bchunk/2, bchunk/3, chunk_step/3, chunk_info/1]).
 -export([truncate/1, truncate/2, btruncate/2, reopen/2, reopen/3, breopen/3, inc_wrap_file/1, change_size/2, change_notify/3]).
@@ -79,6 +79,22 @@ lclose(_, _) -> {error, no_such_log}.
 -spec sync(log()) -> result().
 sync(Log) -> call(Log, 10, []).
 
+%% Has these logs, or all that are open, on the device, by one call to the server of each folder. An error has those that are not, each
+%% with the reason, in the order in which they were asked for; the others are, all the same. Name the logs that matter: all() says
+%% nothing of a log whose open failed, or that was not opened again, or that is closed and still waits to be written, and has one that is
+%% open read-only, which is not synced. disk_log has no such call.
+-spec sync_all() -> ok | {error, {not_synced, [{log(), Reason :: term()}]}}.
+sync_all() -> sync_all(all()).
+
+-spec sync_all([log()]) -> ok | {error, {not_synced, [{log(), Reason :: term()}]}}.
+sync_all(Logs) ->
+    Asked = lists:uniq(Logs),
+    Left = maps:from_list(dlog_port:sync_all(Asked)),
+    case [{Log, element(2, dlog_reason:answer(Log, map_get(Log, Left)))} || Log <- Asked, is_map_key(Log, Left)] of
+        [] -> ok;
+        Reasons -> {error, {not_synced, Reasons}}
+    end.
+
 %% Closes all logs and ends the servers. An error has the folders of which something could not be written.
 -spec stop() -> ok | {error, {not_written, [file:filename()]}}.
 stop() -> stop(infinity).
@@ -96,6 +112,10 @@ all() -> lists:sort(dlog_port:all()).
 
 -spec accessible_logs() -> {[log()], []}.
 accessible_logs() -> {all(), []}.
+
+%% A log is no process.
+-spec pid2name(pid()) -> undefined.
+pid2name(Pid) when is_pid(Pid) -> undefined.
 
 %% Items.
 
@@ -258,28 +278,10 @@ info(Log) ->
     case dlog_port:call(Log, 13, []) of
         {info, Info} ->
             {ok, Known} = dlog_port:find(Log),
-            info(Log, Known, Info);
+            dlog_info:list(Log, Known, Info);
         Said ->
             dlog_reason:answer(Log, Said)
     end.
-
-info(Log, #{file := File, owners := Owners}, #{type := Type, size := Size, mode := Mode, users := Users, status := Status, writing := Writing}) ->
-    [{name, Log}, {file, File}, {type, Type}, {format, internal}, {size, dlog_options:from_wire(Size)},
-     {owners, lists:reverse(Owners)}, {users, Users}]
-    ++ head(Writing) ++ [{mode, Mode}, {status, Status}, {node, node()}] ++ counts(Writing) ++ hold(Writing).
-
-head(none) -> [];
-head(#{head := Head}) -> [{head, Head}].
-
-counts(none) -> [];
-counts(#{full := Full, written := Written}) -> [{full, Full}, {no_written_items, Written}];
-counts(#{bytes := Bytes, items := Items, all := All, written := Written, file := File, rolls := Rolls}) ->
-    [{no_current_bytes, dlog_options:from_wire(Bytes)}, {no_current_items, Items}, {no_items, All},
-     {no_written_items, Written}, {current_file, File}, {no_overflows, Rolls}].
-
-%% Of a log that is held, the most blocks that it may have; disk_log has no such thing.
-hold(#{hold := Blocks}) when is_integer(Blocks) -> [{hold, Blocks}];
-hold(_) -> [].
 
 hold_of(Log) ->
     case lists:keyfind(hold, 1, info(Log)) of {hold, Blocks} -> Blocks; false -> none end.

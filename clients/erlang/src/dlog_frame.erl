@@ -1,7 +1,7 @@
 %% The texts of frames: requests as they are written, and answers as they are read (docs/PROTOCOL.md).
 -module(dlog_frame).
 
--export([text/1, bytes/1, items/1, option/2, size/1, blocks/1, place/1, frame/3, split/1, answer/1]).
+-export([text/1, texts/1, bytes/1, items/1, option/2, size/1, blocks/1, place/1, frame/3, split/1, answer/1]).
 
 -export_type([answer/0]).
 
@@ -19,6 +19,9 @@ frame(Tag, Number, Parts) ->
 
 text(Text) ->
     <<(byte_size(Text)), Text/binary>>.
+
+texts(Texts) ->
+    [<<(length(Texts)):32>> | [text(Text) || Text <- Texts]].
 
 bytes(Bytes) ->
     <<(byte_size(Bytes)):32, Bytes/binary>>.
@@ -66,31 +69,48 @@ said(8, <<Place:?PLACE_BYTES/binary>>) -> {at, Place};
 said(9, Parts) -> {info, info(Parts)};
 said(10, <<What, _/binary>>) -> {turn, element(What + 1, {drained, idle, fault})};
 said(11, <<>>) -> no_memory;
+said(12, <<Count:32, Rest/binary>>) -> {unsynced, unsynced(Count, Rest)};
 said(63, <<Place:32>>) -> {no_request, Place};
-said(Kind, Parts) when Kind > 64 -> {refused, Kind - 64, refusal(Kind - 64, Parts)}.
+said(Kind, Parts) when Kind > 64 ->
+    {Refused, <<>>} = refusal(Kind, Parts),
+    Refused.
 
-%% What a refusal speaks of.
-refusal(Number, <<Argument>>) when Number =:= 1; Number =:= 4 ->
-    element(Argument + 1, {type, size, repair, head, items, item, count, continuation, blocks, hold});
-refusal(5, Parts) ->
-    {Old, Rest} = take_size(Parts),
-    {New, <<>>} = take_size(Rest),
-    {Old, New};
-refusal(8, Parts) -> element(1, take_text(Parts));
-refusal(Number, Parts) when Number =:= 10; Number =:= 24 -> file(take_text(Parts));
-refusal(19, <<Bytes:64>>) -> Bytes;
-refusal(23, <<File:32>>) -> File;
-refusal(_, <<>>) -> none.
+%% The logs of a sync of many that are not on the device, with what their syncs were answered.
+unsynced(0, <<>>) -> [];
+unsynced(Count, Rest) ->
+    {Log, <<Kind, Parts/binary>>} = take_text(Rest),
+    {Said, Others} = kept_off(Kind, Parts),
+    [{Log, Said} | unsynced(Count - 1, Others)].
 
-file({Base, <<0>>}) -> <<Base/binary, ".log">>;
-file({Base, <<1>>}) -> <<Base/binary, ".idx">>;
-file({Base, <<2, File:32>>}) -> <<Base/binary, $., (integer_to_binary(File))/binary>>.
+kept_off(Kind, Rest) when Kind =:= 4; Kind =:= 11 -> {said(Kind, <<>>), Rest};
+kept_off(Kind, Parts) -> refusal(Kind, Parts).
+
+%% A refusal by its kind, and what follows it.
+refusal(Kind, Parts) ->
+    {Of, Rest} = speaks_of(Kind - 64, Parts),
+    {{refused, Kind - 64, Of}, Rest}.
+
+speaks_of(Number, <<Argument, Rest/binary>>) when Number =:= 1; Number =:= 4 ->
+    {element(Argument + 1, {type, size, repair, head, items, item, count, continuation, blocks, hold}), Rest};
+speaks_of(5, Parts) ->
+    {Old, Then} = take_size(Parts),
+    {New, Rest} = take_size(Then),
+    {{Old, New}, Rest};
+speaks_of(8, Parts) -> take_text(Parts);
+speaks_of(Number, Parts) when Number =:= 10; Number =:= 24 -> file(take_text(Parts));
+speaks_of(19, <<Bytes:64, Rest/binary>>) -> {Bytes, Rest};
+speaks_of(23, <<File:32, Rest/binary>>) -> {File, Rest};
+speaks_of(_, Rest) -> {none, Rest}.
+
+file({Base, <<0, Rest/binary>>}) -> {<<Base/binary, ".log">>, Rest};
+file({Base, <<1, Rest/binary>>}) -> {<<Base/binary, ".idx">>, Rest};
+file({Base, <<2, File:32, Rest/binary>>}) -> {<<Base/binary, $., (integer_to_binary(File))/binary>>, Rest}.
 
 notice(<<0, Lost:64>>) -> {wrap, Lost};
 notice(<<1, Lost:64>>) -> {truncated, Lost};
 notice(<<2>>) -> full;
 notice(<<3, 0>>) -> {status, ok};
-notice(<<3, 1, Kind, Parts/binary>>) -> {status, {refused, Kind - 64, refusal(Kind - 64, Parts)}};
+notice(<<3, 1, Kind, Parts/binary>>) -> {status, element(1, refusal(Kind, Parts))};
 notice(<<4, Items/binary>>) -> {read_only, items_in(Items)};
 notice(<<5, Items/binary>>) -> {blocked_log, items_in(Items)};
 notice(<<6>>) -> no_such_log.

@@ -3,7 +3,7 @@
 -module(dlog_port).
 -behaviour(gen_server).
 
--export([find/1, all/0, open/3, call/3, send/3, resized/2, keep/2, notify/2, stop/1]).
+-export([find/1, all/0, open/3, call/3, send/3, sync_all/1, resized/2, keep/2, notify/2, stop/1]).
 -export([init/1, handle_call/3, handle_cast/2, handle_info/2]).
 
 -export_type([log/0]).
@@ -49,7 +49,7 @@ call(Log, Number, Parts) ->
     try ets:lookup_element(dlog_logs, Log, 2) of
         {Server, Wire, Timeout, Limit} ->
             case too_long(Wire, Parts, Limit) of
-                false -> ask(Server, {call, Wire, Number, Parts}, Timeout);
+                false -> ask(Server, {call, Wire, Number, text(Wire, Parts)}, Timeout);
                 Long -> Long
             end
     catch
@@ -62,11 +62,34 @@ send(Log, Number, Parts) ->
     try ets:lookup_element(dlog_logs, Log, 2) of
         {Server, Wire, _, Limit} ->
             case too_long(Wire, Parts, Limit) of
-                false -> gen_server:cast(Server, {send, self(), Wire, Number, Parts});
+                false -> gen_server:cast(Server, {send, self(), Number, text(Wire, Parts)});
                 Long -> Long
             end
     catch
         error:badarg -> {refused, 2, none}
+    end.
+
+%% What a call says of its log, as one binary: many callers do at a time what would hold up the server.
+text(Wire, Parts) ->
+    iolist_to_binary([dlog_frame:text(Wire) | Parts]).
+
+%% Has logs on the device, by one call to the server of each folder. Returns those that are not, with what their syncs were answered.
+-spec sync_all([term()]) -> [{term(), term() | failure()}].
+sync_all(Logs) ->
+    Known = [{Log, find(Log)} || Log <- Logs],
+    Open = [{Server, {Log, Wire, Limit}} || {Log, {ok, #{server := Server, wire := Wire, limit := Limit}}} <- Known],
+    Closed = [{Log, {refused, 2, none}} || {Log, error} <- Known],
+    Closed ++ lists:append([synced(Server, proplists:get_all_values(Server, Open)) || Server <- proplists:get_keys(Open)]).
+
+synced(Server, [{_, _, Limit} | _] = Logs) ->
+    Names = dlog_frame:texts([Wire || {_, Wire, _} <- Logs]),
+    Said = case too_long(<<>>, Names, Limit) of
+               false -> ask(Server, {sync_all, Names}, infinity);
+               Long -> Long
+           end,
+    case Said of
+        {unsynced, Left} -> [{Log, Why} || {Wire, Why} <- Left, {Log, Its, _} <- Logs, Its =:= Wire];
+        Failed -> [{Log, Failed} || {Log, _, _} <- Logs]
     end.
 
 %% Notes the size that a log was given.

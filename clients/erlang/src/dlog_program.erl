@@ -4,8 +4,8 @@
 -export([setting/1, start/1, why_not/1, end_of/2]).
 
 -define(LOOK_AGAIN, 10).
-%% The program ignores what is meant to end the node.
--define(SPARED, "trap '' TERM INT HUP; exec \"$0\" \"$@\"").
+%% The program ignores what is meant to end the node, and a limit on the size of files, which is an error then.
+-define(SPARED, "trap '' TERM INT HUP XFSZ; exec \"$0\" \"$@\"").
 
 %% A setting of the application dlog, or of the environment.
 -spec setting(program | blocks | unsynced_rolls | wait | restart) -> term().

@@ -35,12 +35,18 @@ reason(Log, 20, _) -> {same_file_name, Log};
 reason(_, 21, _) -> stale_continuation;
 reason(_, 22, _) -> end_of_log;
 reason(Log, 23, File) -> {corrupt_log_file, file_of(Log, File)};
-reason(_, 24, File) -> {file_error, File, eio};
+reason(Log, 24, File) -> {file_error, path_of(Log, binary_to_list(File)), eio};
 reason(_, 25, _) -> exhausted.
 
 file_of(Log, File) ->
     {ok, #{file := Name, type := Type}} = dlog_port:find(Log),
     case Type of halt -> Name; wrap -> Name ++ "." ++ integer_to_list(File) end.
+
+path_of(Log, File) ->
+    case dlog_port:find(Log) of
+        {ok, #{folder := Folder}} -> filename:join(Folder, File);
+        error -> File
+    end.
 
 %% What became of a log as its server was started again.
 -spec restarted(term(), term()) -> ok | {repaired, {recovered, non_neg_integer()}, {badbytes, non_neg_integer()}} | {error, term()}.

@@ -8,12 +8,13 @@
 
 -define(FLUSH_AFTER, 2000).
 -define(TRY_AGAIN, 50).
--define(VERSION, 2).
+-define(VERSION, 3).
 -define(HELLO, 0).
 -define(OPEN, 1).
 -define(CLOSE, 14).
 -define(EXIT, 15).
 -define(FLUSH_ALL, 17).
+-define(SYNC_ALL, 18).
 
 %% What becomes of the logs' names by an answer: none, or the name of a log that is closed.
 -type change() :: none | {closed, binary()}.
@@ -66,7 +67,7 @@ started(Folder, Until) ->
 
 greeted(Port, Read) ->
     case dlog_frame:split(Read) of
-        {[Hello], Rest} -> {1, {hello, _, Limit, _}} = dlog_frame:answer(Hello), {ok, Port, Limit, Rest};
+        {[Hello], Rest} -> greeted(Port, dlog_frame:answer(Hello), Rest);
         {[], _} ->
             receive
                 {Port, {data, More}} -> greeted(Port, <<Read/binary, More/binary>>);
@@ -74,6 +75,13 @@ greeted(Port, Read) ->
                 {'EXIT', Port, Why} -> {status, Why}
             end
     end.
+
+greeted(Port, {1, {hello, ?VERSION, Limit, _}}, Rest) ->
+    {ok, Port, Limit, Rest};
+greeted(Port, {1, {hello, Version, _, _}}, _) ->
+    port_close(Port),
+    Form = "the server speaks version ~b of the frames, and this client version ~b",
+    {error, lists:flatten(io_lib:format(Form, [Version, ?VERSION]))}.
 
 %% The status is 1 if the folder is in use, or not there.
 not_started(Folder, Status, Until) ->
@@ -114,9 +122,12 @@ handle_call({open, Log, #{linkto := To} = Given, Parts}, {Caller, _} = From, #st
     Text = [<<Client:32>>, dlog_frame:text(Wire), Parts],
     Note = fun(Said) -> opened(Said, Log, Given#{server => self(), wire => Wire, limit => Limit}) end,
     sent(request(?OPEN, Text, {From, Note}, Known#state{names = Names#{Wire => Log}}));
-handle_call({call, Wire, Number, Parts}, {Pid, _} = From, State) ->
+handle_call({call, Wire, Number, Text}, {Pid, _} = From, State) ->
     {Client, Known} = client_of(Pid, State),
-    sent(request(Number, [<<Client:32>>, dlog_frame:text(Wire), Parts], {From, note(Number, Wire, Pid, State)}, Known));
+    sent(request(Number, [<<Client:32>> | Text], {From, note(Number, Wire, Pid, State)}, Known));
+handle_call({sync_all, Names}, {Pid, _} = From, State) ->
+    {Client, Known} = client_of(Pid, State),
+    sent(request(?SYNC_ALL, [<<Client:32>>, Names], {From, fun none/1}, Known));
 handle_call(leave, From, #state{clients = Clients} = State) ->
     Left = lists:foldl(fun({Client, _}, Next) -> write(0, ?EXIT, <<Client:32>>, Next) end, State, maps:values(Clients)),
     sent(request(?FLUSH_ALL, [], {From, fun none/1}, Left)).
@@ -127,9 +138,9 @@ handle_cast({resized, Log, Size}, State) ->
         error -> closed
     end,
     sent(State);
-handle_cast({send, Pid, Wire, Number, Parts}, State) ->
+handle_cast({send, Pid, Number, Text}, State) ->
     {Client, Known} = client_of(Pid, State),
-    sent(will_flush(write(0, Number, [<<Client:32>>, dlog_frame:text(Wire), Parts], Known))).
+    sent(will_flush(write(0, Number, [<<Client:32>> | Text], Known))).
 
 handle_info(timeout, #state{port = Port, unsent = Unsent} = State) ->
     try port_command(Port, Unsent) catch error:badarg -> ended end,

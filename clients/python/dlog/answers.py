@@ -4,7 +4,7 @@ from __future__ import annotations
 import struct
 from typing import Callable, Dict, List, NamedTuple, Optional, Tuple, TypeVar, Union
 
-from .errors import BadFrame, Error, NoMemory, Refused, Suspended
+from .errors import BadFrame, Error, NoMemory, NotSynced, Refused, Suspended
 from .requests import KINDS, MODES, Size
 
 ARGUMENTS = (
@@ -169,6 +169,13 @@ class Reader:
             return Notice(client, log, ("read_only", "blocked")[kind - 4], self.items())
         return Notice(client, log, {2: "full", 6: "no_such_log"}[kind], None)
 
+    def not_synced(self) -> Tuple[str, Error]:
+        log = self.short()
+        why = self.answer(self.u8())
+        if not isinstance(why, Error):
+            raise Error("an answer is of no form")
+        return log, why
+
     def answer(self, kind: int) -> object:
         """The value of an answer, or the exception that it stands for."""
         if kind >= 64:
@@ -180,7 +187,7 @@ class Reader:
         if kind == 2:
             return Repaired(self.u64(), self.u64())
         if kind == 4:
-            return Suspended("suspended")
+            return Suspended("a block keeps it off")
         if kind == 5:
             return Held()
         if kind == 6:
@@ -195,6 +202,9 @@ class Reader:
             return Turn(what, None if what == "idle" else self.short())
         if kind == 11:
             return NoMemory("out of memory")
+        if kind == 12:
+            logs = [self.not_synced() for _ in range(self.u32())]
+            return NotSynced(logs) if logs else None
         return None
 
 

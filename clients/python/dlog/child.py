@@ -16,8 +16,8 @@ WORDS_BYTES = 2048
 LAST_WORDS_SECONDS = 1.0
 
 
-# The program ignores what is meant to end its parent.
-SPARED = 'trap "" TERM INT HUP; exec "$0" "$@"'
+# The program ignores what is meant to end its parent, and a limit on the size of files, which is an error then.
+SPARED = 'trap "" TERM INT HUP XFSZ; exec "$0" "$@"'
 
 
 class Child:
@@ -31,19 +31,19 @@ class Child:
         program = shutil.which(words[0])
         if program is None:
             raise NotStarted(None, f"{words[0]}: there is no such program")
-        theirs_in, self.input = os.pipe()
-        self.output, theirs_out = os.pipe()
-        self._errors, theirs_errors = os.pipe()
+        self.input = self.output = self._errors = -1
         self._said, self._passes_on = b"", False
+        theirs: List[int] = []
         try:
+            self._open_pipes(theirs)
             self._process = subprocess.Popen(["/bin/sh", "-c", SPARED, program, *words[1:]],
-                                             stdin=theirs_in, stdout=theirs_out,
-                                             stderr=theirs_errors, start_new_session=True)
+                                             stdin=theirs[0], stdout=theirs[1],
+                                             stderr=theirs[2], start_new_session=True)
         except OSError as error:
             self._close_all()
-            raise NotStarted(None, str(error)) from error
+            raise NotStarted(None, f"{words[0]}: {error}") from error
         finally:
-            for pipe in (theirs_in, theirs_out, theirs_errors):
+            for pipe in theirs:
                 os.close(pipe)
         _running.add(self)
         self.pid = self._process.pid
@@ -52,6 +52,15 @@ class Child:
         self._pipes = select.poll()
         self._pipes.register(self.output, select.POLLIN)
         self._pipes.register(self._errors, select.POLLIN)
+
+    def _open_pipes(self, theirs: List[int]) -> None:
+        """Opens the three pipes. The ends of the program are added to `theirs`, also where one fails."""
+        read, self.input = os.pipe()
+        theirs.append(read)
+        self.output, write = os.pipe()
+        theirs.append(write)
+        self._errors, write = os.pipe()
+        theirs.append(write)
 
     def is_readable(self, seconds: Optional[float]) -> Optional[bool]:
         """Waits for output, or its end: true if there is some, false if standard error alone had

@@ -1,7 +1,7 @@
 """What keeps a call from its answer."""
 from __future__ import annotations
 
-from typing import Optional, Tuple
+from typing import List, Optional, Tuple
 
 REFUSALS = (
     "", "bad_arg", "no_such_log", "name_already_open", "arg_mismatch", "size_mismatch",
@@ -38,7 +38,11 @@ class Gone(Error):
 
 
 class NotStarted(Gone):
-    """The server did not start: `status` is None if there is no such program; `words` say why."""
+    """The server did not start, or speaks another version of the frames: `status` is None if there is no
+    such program, if there are too few descriptors for it, and if it is of another version; `words` say why."""
+
+    def __str__(self) -> str:
+        return self.args[0] if self.status is not None else f"the server was not started: {self.words}"
 
 
 class TimedOut(Error, TimeoutError):
@@ -50,7 +54,17 @@ class NoMemory(Error):
 
 
 class Suspended(Error):
-    """A block keeps the call off, and too many calls wait already."""
+    """A block keeps the call off, and it does not wait for the block: in a `sync_all`, which waits for
+    none, or where 1,024 calls wait already."""
+
+
+class NotSynced(Error):
+    """Of the logs of a `sync_all` these are not on the device, each with what its sync has met; all
+    others that it meant are."""
+
+    def __init__(self, logs: List[Tuple[str, Error]]) -> None:
+        self.logs = logs
+        super().__init__("not on the device: " + "; ".join(f"{log}: {why}" for log, why in logs))
 
 
 class BadFrame(Error):

@@ -36,8 +36,10 @@ class Client:
              base: Optional[str] = None, mode: str = "read_write", repair: str = "yes",
              head: Optional[bytes] = None, notify: bool = False, link: str = "owner",
              hold: Optional[int] = None) -> Log:
-        """Opens a log. A `size` of a pair, bytes and files, makes it a wrap log. With a `hold` it has at
-        most so many of the server's blocks, and writes what waits of it where an item needs more."""
+        """Opens a log. It is a wrap log with `kind="wrap"` or a `size` of a pair, bytes and files, and else a
+        halt log, also where the folder has a wrap log of its name: a new one is begun beside that. With a
+        `hold` it has at most so many of the server's blocks, and writes what waits of it where an item
+        needs more."""
         kind = kind or ("wrap" if isinstance(size, tuple) else "halt")
         options: Dict[str, object] = dict(kind=kind, size_=size, base=base, mode=mode, repair=repair,
                                           head=head, notify=notify, link=link, hold=hold)
@@ -71,6 +73,13 @@ class Client:
     def log(self, name: str) -> Log:
         """A log that is open already."""
         return Log(self, name)
+
+    def sync_all(self, *names: str) -> None:
+        """Has these logs on the device once it returns. Raises `NotSynced` with those that are not; the others
+        are, all the same. Name the logs that matter. Without names it is all that are open, whoever opened
+        them: one that is open read-only is among those that are not (E13), and nothing is said of a log that
+        was not opened, that a restart did not open again, or that is closed and still waits to be written."""
+        self.server.call(18, self._front + requests.names(names))
 
     def exit(self) -> None:
         """Gives up all that the client owns."""
@@ -123,6 +132,12 @@ class Log:
     def log(self, *items: bytes) -> None:
         """Logs items in one call."""
         self.call(2, requests.items(items))
+
+    def log_synced(self, *items: bytes) -> None:
+        """Logs items in one call, and has them on the device once it returns. The log and its sync are done by
+        the same server: with two calls another thread may have started it again between them, and a sync
+        says nothing of items that its server has not."""
+        self.server.call_all([(2, self._front + requests.items(items)), (10, self._front)])
 
     def log_many(self, items: Iterable[bytes], ahead: int = 64) -> None:
         """Logs each item by a call of its own, with up to `ahead` calls under way."""

@@ -2,14 +2,13 @@
 from __future__ import annotations
 
 import collections
-import itertools
 import os
 import queue
 import select
 import struct
 import threading
 import time
-from typing import Any, Deque, Dict, List, Optional, Tuple
+from typing import Any, Deque, Dict, Iterator, List, Optional, Sequence, Tuple
 
 from .answers import NOTICE
 from .child import READ_BYTES, Child
@@ -25,11 +24,11 @@ class Process:
     Any thread may send. Of the threads that wait for answers one reads, and hands the others theirs.
     """
 
-    def __init__(self, words: List[str]) -> None:
+    def __init__(self, words: List[str], tags: Iterator[int]) -> None:
         self.frame_limit = 0xFFFFFFFF
         self.notices: Deque[bytes] = collections.deque()
         self.ended: Optional[Gone] = None
-        self._tags = itertools.count()
+        self._tags = tags
         self._answers: Dict[int, Optional[bytes]] = {}
         self._turns: Dict[int, Any] = {}
         self._unsent, self._is_sent = bytearray(), True
@@ -52,15 +51,28 @@ class Process:
             raise Invalid(f"a request of {length} bytes: it has at most {self.frame_limit}")
         return struct.pack(">IIB", length, tag, op) + parts
 
+    def awaits(self, tag: int) -> bool:
+        """Whether the request was sent to this server, and its answer not taken."""
+        return tag in self._answers
+
+    def send_all(self, calls: Sequence[Tuple[int, bytes]], deadline: Optional[float]) -> List[int]:
+        """Sends requests in one piece, and returns their tags."""
+        requests = [self.request(op, parts) for op, parts in calls]
+        try:
+            self.write(b"".join(frame for _, frame in requests), deadline)
+        except BaseException:
+            self.forget([tag for tag, _ in requests])
+            raise
+        return [tag for tag, _ in requests]
+
     def send(self, op: int, parts: bytes, deadline: Optional[float]) -> int:
         """Sends a request, and returns its tag."""
-        tag, frame = self.request(op, parts)
-        try:
-            self.write(frame, deadline)
-        except BaseException:
+        return self.send_all([(op, parts)], deadline)[0]
+
+    def forget(self, tags: Sequence[int]) -> None:
+        """Lets answers go that nobody waits for."""
+        for tag in tags:
             self._answers.pop(tag, None)
-            raise
-        return tag
 
     def write(self, frames: bytes, deadline: Optional[float]) -> None:
         """Writes whole frames, after what a thread that was out of time has left."""

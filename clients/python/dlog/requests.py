@@ -7,7 +7,7 @@ from typing import Any, Callable, Optional, Sequence, Tuple, Union
 
 from .errors import Invalid
 
-VERSION = 2
+VERSION = 3
 ITEM_LIMIT = 1_048_576
 NAME = re.compile(r"[A-Za-z0-9_-]{1,64}\Z")
 PLACE_BYTES = 17
@@ -46,6 +46,8 @@ def item(value: bytes) -> bytes:
 
 
 def items(values: Sequence[bytes]) -> bytes:
+    if not values:
+        raise Invalid("a call of no items: it has at least one")
     return struct.pack(">I", len(values)) + b"".join(map(item, values))
 
 
@@ -55,6 +57,10 @@ def option(encode: Callable[[Any], bytes], value: object) -> bytes:
 
 def blocks(number: int) -> bytes:
     return pack(">I", number)
+
+
+def names(values: Sequence[Union[str, bytes]]) -> bytes:
+    return struct.pack(">I", len(values)) + b"".join(map(short, values))
 
 
 def size(value: Size) -> bytes:

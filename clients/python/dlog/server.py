@@ -7,7 +7,7 @@ import time
 import weakref
 from pathlib import Path
 from types import TracebackType
-from typing import List, NamedTuple, Optional, Type, Union, cast
+from typing import List, NamedTuple, Optional, Sequence, Tuple, Type, Union, cast
 
 from . import requests
 from .answers import Hello, Notice, Repaired, Turn, notice_of, value_of
@@ -18,6 +18,8 @@ from .process import Process, deadline_in
 TRY_AGAIN_SECONDS = 0.05
 # The clients that the server numbers have the numbers from here on.
 FIRST_NUMBER = 2**31
+# Of how many servers that have ended calls are known that were sent and not awaited.
+KEPT_ENDS = 4
 
 
 class Reopened(NamedTuple):
@@ -44,6 +46,9 @@ class Server:
         if unsynced_rolls:
             self._words.append("--unsynced-rolls")
         self._numbers = itertools.count(FIRST_NUMBER)
+        # The tags of one server are none of the next one, so that no answer is taken for another call's.
+        self._tags = itertools.count()
+        self._ended: List[Process] = []
         self._changing = threading.Lock()
         self._openings: List[Opening] = []
         self._start(wait)
@@ -51,7 +56,7 @@ class Server:
     def _start(self, wait: float) -> None:
         until = time.monotonic() + wait
         while True:
-            self._process = Process(self._words)
+            self._process = Process(self._words, self._tags)
             try:
                 self.hello = self._say_hello()
                 break
@@ -64,6 +69,10 @@ class Server:
                 self._process.close()
                 raise
             time.sleep(TRY_AGAIN_SECONDS)
+        if self.hello.version != requests.VERSION:
+            self._process.close()
+            raise NotStarted(None, f"it speaks version {self.hello.version} of the frames, and this client "
+                                   f"version {requests.VERSION}")
         self._process.frame_limit = self.hello.frame_limit
         self._process.child.pass_on()
         self._closes = weakref.finalize(self, self._process.close, 1.0)
@@ -110,6 +119,7 @@ class Server:
             if self._process.is_running():
                 return []
             self._closes()
+            self._ended = [self._process, *self._ended][:KEPT_ENDS]
             self._start(wait)
             return [self._open_again(opening) for opening in self._openings]
 
@@ -152,7 +162,20 @@ class Server:
     def answer(self, tag: int, timeout: Optional[float] = None) -> object:
         """Waits for the answer of a request, for so many seconds, or as long as a call may take."""
         deadline = deadline_in(self.timeout if timeout is None else timeout)
-        return value_of(self._process.answer(tag, deadline))
+        servers = [self._process, *self._ended]
+        process = next((it for it in servers if it.awaits(tag)), self._process)
+        return value_of(process.answer(tag, deadline))
+
+    def call_all(self, calls: Sequence[Tuple[int, bytes]]) -> None:
+        """Makes requests that are sent together, to the same server, and waits for all answers. Raises what
+        the first has met that was not done."""
+        deadline, process = deadline_in(self.timeout), self._process
+        tags = process.send_all(calls, deadline)
+        try:
+            while tags:
+                value_of(process.answer(tags.pop(0), deadline))
+        finally:
+            process.forget(tags)
 
     def _write(self, frames: bytes) -> None:
         self._process.write(frames, deadline_in(self.timeout))

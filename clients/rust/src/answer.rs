@@ -55,6 +55,8 @@ pub enum Reply {
     Turn(Turn),
     Suspended,
     NoMemory,
+    /// To a sync of many logs: those that are not on the device, and what each of their syncs was answered.
+    Unsynced(Vec<(String, Reply)>),
     NoRequest(u32),
     Refused(Refused),
 }
@@ -66,6 +68,11 @@ impl Reply {
             Reply::NoRequest(place) => Err(Error::NoRequest(place)),
             Reply::Suspended => Err(Error::Suspended),
             Reply::NoMemory => Err(Error::NoMemory),
+            Reply::Unsynced(logs) if !logs.is_empty() => Err(Error::Unsynced(
+                logs.into_iter()
+                    .filter_map(|(log, reply)| Some((log, reply.into_result().err()?)))
+                    .collect(),
+            )),
             reply => Ok(reply),
         }
     }

@@ -4,7 +4,8 @@ use crate::parts::Parts;
 use crate::{Error, Info, Items, Log, Notice, Options, Place, Reply, Server, Size};
 use std::collections::VecDeque;
 
-const VERSION: u16 = 2;
+/// The version of the frames that is spoken here.
+pub(crate) const VERSION: u16 = 3;
 
 impl Server {
     /// Opens a log. What it says is `Opened` or `Repaired`.
@@ -90,6 +91,17 @@ impl Server {
     /// What was logged is on the device once this has answered.
     pub fn sync(&self, log: &Log) -> Result<Reply, Error> {
         self.call(10, log, |_| {})
+    }
+
+    /// The same of these logs, in one call. It is `Error::Unsynced` with those that are not on the device; the others are, all
+    /// the same. Name the logs that matter. If none are named it is all that are open, whoever opened them: one that is open
+    /// read-only is not synced (E13), and nothing is said of a log whose open failed, or that is closed and still waits to be
+    /// written.
+    pub fn sync_all(&self, client: u32, logs: &[&str]) -> Result<Reply, Error> {
+        self.ask(18, |parts| {
+            parts.u32(client);
+            parts.names(logs);
+        })
     }
 
     /// Has the calls of other clients suspended, or refused, until `unblock`.

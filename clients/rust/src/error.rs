@@ -1,5 +1,6 @@
 //! What keeps a call from its answer.
 
+use crate::calls::VERSION;
 use crate::parts::Size;
 use std::fmt;
 use std::io;
@@ -73,7 +74,15 @@ impl fmt::Display for Refused {
     fn fmt(&self, out: &mut fmt::Formatter<'_>) -> fmt::Result {
         let number = self.number();
         let name = REFUSALS.get(usize::from(number)).unwrap_or(&"");
-        write!(out, "E{number} {name}")
+        write!(out, "E{number} {name}")?;
+        match self {
+            Refused::Plain(_) => Ok(()),
+            Refused::Argument(_, argument) => write!(out, " {argument}"),
+            Refused::Sizes { old, new } => write!(out, " {old} {new}"),
+            Refused::Log(of) | Refused::File(_, of) => write!(out, " {of}"),
+            Refused::Bytes(bytes) => write!(out, " {bytes}"),
+            Refused::Number(file) => write!(out, " {file}"),
+        }
     }
 }
 
@@ -96,19 +105,24 @@ pub enum Error {
     Invalid(String),
     /// The server could not read the request; the first wrong part of its text begins there.
     NoRequest(u32),
-    /// A block keeps the call off, and too many calls wait already.
+    /// A block keeps the call off, and it does not wait for the block: in a `sync_all`, which waits for none, or where 1,024
+    /// calls wait already.
     Suspended,
     /// The server was refused memory, and did nothing.
     NoMemory,
+    /// Of the logs of a `sync_all` these are not on the device, each with what its sync has met.
+    Unsynced(Vec<(String, Error)>),
     /// The server has ended, or did not start.
     Gone(Ended),
     /// The server did not answer in time. The call may yet be done.
     TimedOut,
     /// No answer is awaited for this tag.
     NoCall(u32),
-    /// An answer is of no form of version 2.
+    /// An answer is of no form of the protocol.
     Form,
-    /// The program could not be started.
+    /// The server speaks this version of the frames, which is not the one that is spoken here.
+    Version(u16),
+    /// The program, which the error names, could not be started.
     Start(io::Error),
 }
 
@@ -137,8 +151,12 @@ impl fmt::Display for Error {
             Error::Refused(refused) => write!(out, "{refused}"),
             Error::Invalid(why) => write!(out, "{why}"),
             Error::NoRequest(place) => write!(out, "no request from byte {place} on"),
-            Error::Suspended => write!(out, "suspended"),
+            Error::Suspended => write!(out, "a block keeps it off"),
             Error::NoMemory => write!(out, "out of memory"),
+            Error::Unsynced(logs) => {
+                let each = logs.iter().map(|(log, why)| format!("{log}: {why}"));
+                write!(out, "not on the device: {}", each.collect::<Vec<_>>().join("; "))
+            }
             Error::Gone(ended) => write!(out, "{ended}"),
             Error::TimedOut => write!(
                 out,
@@ -146,6 +164,10 @@ impl fmt::Display for Error {
             ),
             Error::NoCall(tag) => write!(out, "no answer is awaited for the tag {tag}"),
             Error::Form => write!(out, "an answer is of no form"),
+            Error::Version(version) => write!(
+                out,
+                "the server speaks version {version} of the frames, and this client version {VERSION}"
+            ),
             Error::Start(error) => write!(out, "the server could not be started: {error}"),
         }
     }

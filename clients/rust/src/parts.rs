@@ -1,6 +1,7 @@
 //! The parts of requests.
 
 use crate::{Error, Log, Place};
+use std::fmt;
 
 /// The most bytes of an item.
 pub const ITEM_LIMIT: usize = 1_048_576;
@@ -38,10 +39,10 @@ pub enum Repair {
 }
 
 /// How a log is opened. The default is a halt log at its own name, read and written, repaired if it has to be, with the size
-/// that it has.
+/// that it has; also where the folder has a wrap log of its name: a new log is begun beside that.
 #[derive(Clone, Debug, Default)]
 pub struct Options {
-    /// A wrap log. It is one too if its size says so.
+    /// A wrap log, as one that is there is opened. It is one too if its size says so.
     pub wrap: bool,
     pub base: Option<String>,
     pub size: Option<Size>,
@@ -66,6 +67,16 @@ impl Options {
         parts.byte(self.notify.into());
         parts.byte(self.anonymous.into());
         parts.option(self.hold, Parts::u32);
+    }
+}
+
+impl fmt::Display for Size {
+    fn fmt(&self, out: &mut fmt::Formatter<'_>) -> fmt::Result {
+        match self {
+            Size::Infinity => write!(out, "infinity"),
+            Size::Bytes(bytes) => write!(out, "{bytes}"),
+            Size::Wrap { bytes, files } => write!(out, "{bytes}x{files}"),
+        }
     }
 }
 
@@ -139,6 +150,13 @@ impl Parts {
         self.bytes.extend(name.as_bytes());
     }
 
+    pub(crate) fn names(&mut self, names: &[&str]) {
+        self.u32(names.len() as u32);
+        for name in names {
+            self.name(name);
+        }
+    }
+
     pub(crate) fn item(&mut self, item: &[u8]) {
         if item.len() > ITEM_LIMIT {
             self.refuse(format!(
@@ -151,6 +169,9 @@ impl Parts {
     }
 
     pub(crate) fn items<I: AsRef<[u8]>>(&mut self, items: &[I]) {
+        if items.is_empty() {
+            self.refuse("a call of no items: it has at least one".to_owned());
+        }
         self.u32(items.len() as u32);
         for item in items {
             self.item(item.as_ref());

@@ -15,6 +15,8 @@ const NON_BLOCKING: c_int = if cfg!(target_os = "linux") { 0o4000 } else { 4 };
 const SIG_HUP: c_int = 1;
 const SIG_INT: c_int = 2;
 const SIG_TERM: c_int = 15;
+/// A limit on the size of files, which is an error of the call then.
+const SIG_XFSZ: c_int = 25;
 const SIG_IGN: usize = 1;
 
 /// A pipe that is waited for, and what for; afterwards, what came.
@@ -64,7 +66,7 @@ pub(crate) fn spare(command: &mut Command) -> &mut Command {
         // SAFETY: both may be called between a fork and an exec, and neither takes a pointer.
         unsafe {
             setsid();
-            for number in [SIG_HUP, SIG_INT, SIG_TERM] {
+            for number in [SIG_HUP, SIG_INT, SIG_TERM, SIG_XFSZ] {
                 signal(number, SIG_IGN);
             }
         }

@@ -151,8 +151,11 @@ impl Process {
         }
     }
 
+    /// Gives one of those that wait its turn to read. One that has its answer would read no more.
     fn wake_one(&self) {
-        if let Some((_, thread)) = locked(&self.state).waiters.first() {
+        let state = locked(&self.state);
+        let waits = |tag| matches!(state.calls.get(tag), Some(None));
+        if let Some((_, thread)) = state.waiters.iter().find(|(tag, _)| waits(tag)) {
             thread.unpark();
         }
     }

@@ -62,9 +62,18 @@ impl<'a> Reader<'a> {
             9 => Reply::Info(Box::new(self.info()?)),
             10 => Reply::Turn(self.turn()?),
             11 => Reply::NoMemory,
+            12 => Reply::Unsynced(self.list(Reader::unsynced)?),
             63 => Reply::NoRequest(self.u32()?),
             _ => Reply::Refused(self.refusal(kind.checked_sub(64)?)?),
         })
+    }
+
+    fn unsynced(&mut self) -> Option<(String, Reply)> {
+        let log = self.short()?;
+        match self.u8()? {
+            kind @ (4 | 11 | 64..) => Some((log, self.reply(kind)?)),
+            _ => None,
+        }
     }
 
     fn refusal(&mut self, number: u8) -> Option<Refused> {

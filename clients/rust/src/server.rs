@@ -1,5 +1,6 @@
 //! A server: how it is started, sent requests and stopped.
 
+use crate::calls::VERSION;
 use crate::parts::Parts;
 use crate::process::Process;
 use crate::program::locked;
@@ -88,7 +89,10 @@ impl Server {
         if settings.unsynced_rolls {
             command.arg("--unsynced-rolls");
         }
-        let (process, input) = Process::start(command)?;
+        let (process, input) = Process::start(command).map_err(|error| {
+            let why = format!("{}: {error}", program.display());
+            Error::Start(io::Error::new(error.kind(), why))
+        })?;
         let mut server = Server {
             process,
             sending: Mutex::new(Sending {
@@ -99,9 +103,17 @@ impl Server {
             timeout: Mutex::new(settings.timeout),
             frame_limit: u32::MAX,
         };
-        let Reply::Hello { frame_limit, .. } = server.hello()? else {
+        let Reply::Hello {
+            version,
+            frame_limit,
+            ..
+        } = server.hello()?
+        else {
             return Err(Error::Form);
         };
+        if version != VERSION {
+            return Err(Error::Version(version));
+        }
         server.frame_limit = frame_limit;
         server.process.program.pass_on();
         Ok(server)

@@ -6,6 +6,7 @@ ghost use Rattle.dl_types.specs.declared.file.FileName.{FileName};
 ghost use Rattle.dl_disk.specs.Disk.{DiskState, IsCallOn, IsUncounted, written, TornAt, text_at, IsOnce};
 
 use crate::fault::{Fault, ListFault};
+use crate::reason::Reason;
 use crate::syncing::Syncing;
 use dl_types::{Base, FileName};
 use std::alloc::{AllocError, Allocator};
@@ -119,4 +120,9 @@ pub trait Disk {
         ensures content { IsTrue (state self.new).honest → (state self.new).content ≡ (state self.old).content }
         ensures names { IsTrue (state self.new).honest → IfOk result (λ names. IsOnce names.items
             × ((f : FileName) → Contains names.items f ↔ IsSome (map.get (state self.old).content f))) };
+
+    /// Why the last call that failed did, and on which file, as far as the disk knows. A disk in memory knows no reason.
+    fn reason(&self) -> Option<Reason> {
+        None
+    }
 }

@@ -8,6 +8,7 @@ mod files;
 mod folder;
 mod fuse;
 mod memory;
+mod reason;
 mod syncing;
 mod syncs;
 
@@ -17,5 +18,6 @@ pub use files::copy_from;
 pub use folder::FolderDisk;
 pub use fuse::{Fuse, FuseDisk};
 pub use memory::MemoryDisk;
+pub use reason::{Cause, Reason};
 pub use syncing::Syncing;
 pub use syncs::Syncs;

@@ -1,6 +1,7 @@
 // A file that is synced without its disk.
-ghost use Rattle.std.specs.Prelude.{◌≡◌};
+ghost use Rattle.std.specs.Prelude.{◌≡◌, ◌↔◌, IsTrue, IsNone};
 
+use crate::reason::Cause;
 use dl_types::FileName;
 use std::fs::File;
 
@@ -9,6 +10,8 @@ use std::fs::File;
 pub struct Syncing {
     file: FileName,
     handle: File,
+    // Why the device did not take what was written, once that was waited for.
+    cause: Option<Cause>,
 }
 
 impl Syncing {
@@ -16,7 +19,11 @@ impl Syncing {
     pub(crate) fn of(file: FileName, handle: File) -> Syncing
         ensures { result.file ≡ file }
     {
-        Syncing { file, handle }
+        Syncing {
+            file,
+            handle,
+            cause: None,
+        }
     }
 
     /// The file.
@@ -26,8 +33,19 @@ impl Syncing {
         self.file
     }
 
+    /// Why the wait was in vain, if it was.
+    pub(crate) fn cause(&self) -> Option<Cause>
+        ensures { result ≡ self.now.cause }
+    {
+        self.cause
+    }
+
     /// Waits until the device has what was written to the file before the sync began. Returns whether it has.
-    pub fn wait(&self) -> bool {
-        self.handle.sync_data().is_ok()
+    pub fn wait(&mut self) -> bool
+        ensures file { self.new.file ≡ self.old.file }
+        ensures cause { IsTrue result ↔ IsNone self.new.cause }
+    {
+        self.cause = self.handle.sync_data().err().map(Cause::of);
+        self.cause.is_none()
     }
 }

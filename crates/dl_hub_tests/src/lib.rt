@@ -7,3 +7,5 @@ mod app;
 mod hub;
 #[cfg(test)]
 mod sent;
+#[cfg(test)]
+mod sync_all;

@@ -1,8 +1,8 @@
 -- Texts that come one after another while syncs are held.
-use Rattle.std.proofs.Common.{◌≡◌, ◌<◌, ◌+◌, inl, ℕ, List, [], ◌∷◌, ◌++◌, Bool, true, false, cond, Option, Some, None, IfSome, map, take, get_or, length, refl, sym, ap, subst, ◌∙◌, append_assoc, append-nil}
-use Rattle.std.specs.List.{filter, All}
+use Rattle.std.proofs.Common.{◌≡◌, ◌<◌, ◌+◌, ◌||◌, inl, ℕ, List, [], ◌∷◌, ◌++◌, Bool, true, false, cond, Option, Some, None, IfSome, map, take, get_or, length, refl, sym, ap, subst, ◌∙◌, append_assoc, append-nil}
+use Rattle.std.specs.List.{All, list_any}
 use Rattle.std.proofs.lemmas.List.{map-append, take_more}
-use Rattle.std.proofs.lemmas.List.Elements.{All-push, filter-append}
+use Rattle.std.proofs.lemmas.List.Elements.{All-push}
 use Rattle.dl_types.specs.declared.call.Act.TheVariants as act
 use Rattle.dl_types.specs.declared.call.Call.TheVariants as call
 use Rattle.dl_types.specs.declared.event.Event.TheVariants as event
@@ -14,45 +14,48 @@ use Rattle.dl_wire.specs.declared.request.Request.{Request}
 use Rattle.dl_wire.specs.Fits.{IsRequest}
 use Rattle.dl_wire.specs.Request.{request_text}
 use Rattle.dl_serve.specs.declared.held.HeldSync.{HeldSync}
-use Rattle.dl_serve.specs.Arranged.{Moment, Later, After, Held, is_awaited, awaited, unawaited, served_at, held_after, moment_by, sync_in, caller_of, moment_of, request_of, held_of, all_held, AreRequests, moment_in, arranged_after, arranged}
+use Rattle.dl_serve.specs.Arranged.{Moment, Later, After, Held, are_due, holders_of, awaited, unawaited, served_at, held_after, moment_by, sync_in, caller_of, moment_of, request_of, held_of, all_held, AreRequests, moment_in, arranged_after, arranged}
 use Rattle.dl_serve.specs.Asked.{Stage, Chain, IsAsked}
 use Rattle.dl_serve.specs.Serve.{IsServed, IsTakenUp}
 use Rattle.dl_serve.proofs.Chains.{chain_more}
 
--- the texts that come first of more that are held
-awaited_both : (client : Option ClientId) (xs ys : List Held) → awaited client (xs ++ ys) ≡ awaited client xs ++ awaited client ys
-awaited_both client xs ys =
-    let p : Held → Bool = λ (h : Held). is_awaited client h.client in
-    ap (λ (l : List Held). map (λ (h : Held). h.text) l) (filter-append p xs ys) ∙ map-append (λ (h : Held). h.text) (filter p xs) (filter p ys)
+-- a test of some value of each
+pub any_map : {X Y : Type 0} (p : Y → Bool) (f : X → Y) (xs : List X) → list_any (λ (x : X). p (f x)) xs ≡ list_any p (map f xs)
+any_map p f [] = refl
+any_map p f (x ∷ xs) = ap (λ (b : Bool). p (f x) || b) (any_map p f xs)
 
--- one that is held, and comes first or does not
-pub awaited_one : (client : Option ClientId) (h : Held) → is_awaited client h.client ≡ true → awaited client (h ∷ []) ≡ h.text ∷ []
-awaited_one client h is = ap (λ (b : Bool). map (λ (x : Held). x.text) (cond b (h ∷ []) [])) is
+-- all that is held goes first if it is due, and nothing if not
+pub awaited_due : (client : Option ClientId) (held : List Held) → are_due client (holders_of held) ≡ true → awaited None held ≡ awaited client held
+awaited_due client held due = ap (λ (b : Bool). cond b (map (λ (h : Held). h.text) held) []) (sym due)
 
-pub awaited_none : (client : Option ClientId) (h : Held) → is_awaited client h.client ≡ false → awaited client (h ∷ []) ≡ []
-awaited_none client h is = ap (λ (b : Bool). map (λ (x : Held). x.text) (cond b (h ∷ []) [])) is
+pub awaited_not : (client : Option ClientId) (held : List Held) → are_due client (holders_of held) ≡ false → [] ≡ awaited client held
+awaited_not client held not = ap (λ (b : Bool). cond b (map (λ (h : Held). h.text) held) []) (sym not)
 
--- a step alone
-pub chain_one : {X S : Type 0} (Step : X → S → S → List ℕ → Type 0) (x : X) (old new : S) (frames : List ℕ) → Step x old new frames → Chain Step (x ∷ []) old new frames
-chain_one Step x old new frames step = (new, frames, [], step, (refl, refl), sym (append-nil frames))
+pub unawaited_due : (client : Option ClientId) (held : List Held) → are_due client (holders_of held) ≡ true → [] ≡ unawaited client held
+unawaited_due client held due = ap (λ (b : Bool). cond b [] held) (sym due)
+
+pub unawaited_not : (client : Option ClientId) (held : List Held) → are_due client (holders_of held) ≡ false → held ≡ unawaited client held
+unawaited_not client held not = ap (λ (b : Bool). cond b [] held) (sym not)
 
 module _ (Z : Type 0) where
-  pub awaited_more : (client : Option ClientId) (hs : List HeldSync) (i : ℕ) (d : HeldSync) → i < length hs
-      → awaited client (all_held Z (take (i + 1) hs)) ≡ awaited client (all_held Z (take i hs)) ++ awaited client (held_of Z (get_or hs i d) ∷ [])
-  awaited_more client hs i d inside =
-      ap (λ (l : List HeldSync). awaited client (all_held Z l)) (take_more hs i d inside)
-      ∙ ap (λ (l : List Held). awaited client l) (map-append (held_of Z) (take i hs) (get_or hs i d ∷ []))
-      ∙ awaited_both client (all_held Z (take i hs)) (held_of Z (get_or hs i d) ∷ [])
+  -- the texts of one more that is held
+  pub awaited_more : (hs : List HeldSync) (i : ℕ) (d : HeldSync) → i < length hs
+      → awaited None (all_held Z (take (i + 1) hs)) ≡ awaited None (all_held Z (take i hs)) ++ (held_of Z (get_or hs i d)).text ∷ []
+  awaited_more hs i d inside =
+      ap (λ (l : List HeldSync). awaited None (all_held Z l)) (take_more hs i d inside)
+      ∙ ap (λ (l : List Held). awaited None l) (map-append (held_of Z) (take i hs) (get_or hs i d ∷ []))
+      ∙ map-append (λ (h : Held). h.text) (all_held Z (take i hs)) (held_of Z (get_or hs i d) ∷ [])
 
-  keep_held : (b : Bool) (s : HeldSync) (hs : List HeldSync) (l : List Held) → l ≡ all_held Z hs → cond b (held_of Z s ∷ l) l ≡ all_held Z (cond b (s ∷ hs) hs)
-  keep_held true s hs l is = ap (λ (k : List Held). held_of Z s ∷ k) is
-  keep_held false s hs l is = is
+  -- who holds them
+  pub holders_are : (hs : List HeldSync) → map (λ (s : HeldSync). s.client) hs ≡ holders_of (all_held Z hs)
+  holders_are [] = refl
+  holders_are (s ∷ hs) = ap (λ (l : List ClientId). s.client ∷ l) (holders_are hs)
 
-  -- what is held on is held in the same way
-  pub held_on : (q : ClientId → Bool) (hs : List HeldSync) → filter (λ (h : Held). q h.client) (all_held Z hs) ≡ all_held Z (filter (λ (s : HeldSync). q s.client) hs)
-  held_on q [] = refl
-  held_on q (s ∷ hs) =
-      keep_held (q s.client) s (filter (λ (t : HeldSync). q t.client) hs) (filter (λ (h : Held). q h.client) (all_held Z hs)) (held_on q hs)
+  -- what was found of those who hold, of what is held
+  pub due_is : (client : Option ClientId) (list held : List HeldSync) (found is : Bool) → list ≡ held → found ≡ are_due client (map (λ (s : HeldSync). s.client) list) → found ≡ is
+      → are_due client (holders_of (all_held Z held)) ≡ is
+  due_is client list held found is same by of =
+      ap (λ (l : List ClientId). are_due client l) (sym (holders_are held)) ∙ ap (λ (l : List HeldSync). are_due client (map (λ (s : HeldSync). s.client) l)) (sym same) ∙ sym by ∙ of
 
   -- of all that comes these texts came, and in this order these of them were served
   abbrev pub ArrangedBefore : List (List ℕ) → List (List ℕ) → List Held → Type 0
@@ -96,6 +99,7 @@ module _ (Z : Type 0) where
   sync_is tag (ask.Event event.Flush) = tt
   sync_is tag (ask.Hello version) = tt
   sync_is tag ask.All = tt
+  sync_is tag (ask.SyncAll client logs) = tt
 
 module _ {D Z : Type 0} (state : D → DiskState) where
   -- the text of a sync that is held is served by its event

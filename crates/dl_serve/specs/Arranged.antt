@@ -1,12 +1,11 @@
--- In which order texts are served that came together: a sync waits for what came with it.
-use Rattle.std.specs.Prelude.{ℕ, List, [], ◌∷◌, ◌++◌, All, Bool, true, not, Option, Some, None, Result, Ok, Err, map}
-use Rattle.std.specs.List.{filter}
+-- In which order texts are served that came together: syncs wait for what came with them, and are served together.
+use Rattle.std.specs.Prelude.{ℕ, List, [], ◌∷◌, ◌++◌, All, Bool, true, Option, Some, None, Result, Ok, Err, map, if◌then◌else◌}
 use Rattle.dl_types.specs.declared.call.Act.TheVariants as act
 use Rattle.dl_types.specs.declared.call.Call.TheVariants as call
 use Rattle.dl_types.specs.declared.event.Event.{Event}
 use Rattle.dl_types.specs.declared.event.Event.TheVariants as event
 use Rattle.dl_types.specs.declared.name.ClientId.{ClientId}
-use Rattle.dl_types.specs.Name.{same_client}
+use Rattle.dl_types.specs.Name.{is_among}
 use Rattle.dl_wire.specs.declared.request.Ask.{Ask}
 use Rattle.dl_wire.specs.declared.request.Ask.TheVariants as ask
 use Rattle.dl_wire.specs.declared.request.Request.{Request}
@@ -15,7 +14,7 @@ use Rattle.dl_wire.specs.Fits.{IsRequest}
 use Rattle.dl_wire.specs.Request.{request_text}
 use Rattle.dl_serve.specs.declared.held.HeldSync.{HeldSync}
 
--- when a text is served that came: a sync of this client is held, and a call by which its client logs or reads is served after the syncs that are held of its client. Anything else is served after all that are held
+-- when a text is served that came: a sync of this client is held, a call by which its client logs or reads comes after what is held if a sync of its client is, and anything else comes after what is held
 pub data Moment : Type 0 where
   Later : ClientId → Moment
   After : Option ClientId → Moment
@@ -25,18 +24,22 @@ pub record Held : Type 0 where
   pub client : ClientId
   pub text : List ℕ
 
--- a sync of this holder comes before a call by which the client logs or reads, and before anything else
-abbrev pub is_awaited : Option ClientId → ClientId → Bool
-is_awaited (Some client) holder = same_client holder client
-is_awaited None holder = true
+-- the clients whose syncs are held
+abbrev pub holders_of : List Held → List ClientId
+holders_of held = map (λ (h : Held). h.client) held
 
--- the texts of those that are held and come first
+-- the syncs of these holders come before a call by which the client logs or reads, if it is one of them, and before anything else
+abbrev pub are_due : Option ClientId → List ClientId → Bool
+are_due (Some client) holders = is_among holders client
+are_due None holders = true
+
+-- the texts that come first: of all that are held, or of none
 abbrev pub awaited : Option ClientId → List Held → List (List ℕ)
-awaited client held = map (λ (h : Held). h.text) (filter (λ (h : Held). is_awaited client h.client) held)
+awaited client held = if are_due client (holders_of held) then map (λ (h : Held). h.text) held else []
 
--- those that are held on
+-- those that are held on: none, or all
 abbrev pub unawaited : Option ClientId → List Held → List Held
-unawaited client held = filter (λ (h : Held). not (is_awaited client h.client)) held
+unawaited client held = if are_due client (holders_of held) then [] else held
 
 -- what is served as a text comes, while these are held
 abbrev pub served_at : Moment → List ℕ → List Held → List (List ℕ)

@@ -26,6 +26,11 @@ module _ {Z : Type 0} where
   is_suspended reply.Suspended = true
   is_suspended other = false
 
+  -- whether a call was done
+  abbrev pub is_done : Reply Z → Bool
+  is_done reply.Done = true
+  is_done other = false
+
 -- clients, with one more if it is not among them
 abbrev pub with_client : Option ClientId → List ClientId → List ClientId
 with_client None clients = clients

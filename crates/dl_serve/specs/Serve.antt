@@ -26,6 +26,7 @@ use Rattle.dl_serve.specs.Arranged.{Moment, served_at, held_after, all_held, Are
 use Rattle.dl_serve.specs.Asked.{Stage, Chain, IsAsked}
 use Rattle.dl_serve.specs.Frames.{IsLong, IsPartial, HasFrames, tag_of}
 use Rattle.dl_serve.specs.Left.{is_nothing, left_of}
+use Rattle.dl_serve.specs.Synced.{AreSynced}
 
 -- the beginning: no call waits, and no client is known
 abbrev pub first_stage : {D Z : Type 0} → HubView D → Stage D Z
@@ -54,6 +55,7 @@ module _ {D Z : Type 0} (state : D → DiskState) where
   IsDone tag (ask.Hello version) old new frames = (new ≡ old) × (frames ≡ welcome_frame tag)
   IsDone tag (ask.Event e) old new frames = IsAsked state tag e old new frames
   IsDone tag ask.All old new frames = (left : Left) × IsAllFlushed tag left old new frames
+  IsDone tag (ask.SyncAll client logs) old new frames = AreSynced state tag client logs old new frames
 
   -- the text of a request, which is done; or a text that is none, which is told by the place of its first wrong part
   abbrev pub IsServed : List ℕ → Stage D Z → Stage D Z → List ℕ → Type 0

@@ -1,9 +1,11 @@
 // Syncs that wait for what came with them.
-ghost use Rattle.std.specs.Prelude.{◌≡◌};
+ghost use Rattle.std.specs.Prelude.{◌≡◌, map};
+ghost use Rattle.std.specs.List.{list_any};
 ghost use Rattle.dl_types.specs.declared.call.Act.TheVariants as act;
 ghost use Rattle.dl_types.specs.declared.call.Call.TheVariants as call;
 ghost use Rattle.dl_types.specs.declared.event.Event.TheVariants as event;
-ghost use Rattle.dl_serve.specs.Arranged.{caller_of, is_awaited, sync_in};
+ghost use Rattle.dl_types.specs.Name.{same_client};
+ghost use Rattle.dl_serve.specs.Arranged.{are_due, caller_of, sync_in};
 
 use dl_types::{Act, Call, ClientId, Event, Name};
 use dl_wire::{Ask, Request};
@@ -47,12 +49,12 @@ pub fn sync_in<A: Allocator>(request: &Request<A>) -> Option<HeldSync>
             },
             Event::Exit { .. } | Event::Flush => None,
         },
-        Ask::Hello(_) | Ask::All => None,
+        Ask::Hello(_) | Ask::All | Ask::SyncAll { .. } => None,
     }
 }
 
-/// The client of a call that logs or reads, which may be done before syncs of other clients. Any other request comes after all syncs
-/// before it, since it may change what they are answered.
+/// The client of a call that logs or reads, which may be done before syncs of other clients. Any other request comes after all
+/// syncs before it, since it may change what they are answered.
 pub fn caller_of<A: Allocator>(request: &Request<A>) -> Option<ClientId>
     ensures { result ≡ caller_of request.now.ask }
 {
@@ -68,16 +70,23 @@ pub fn caller_of<A: Allocator>(request: &Request<A>) -> Option<ClientId>
             },
             Event::Exit { .. } | Event::Flush => None,
         },
-        Ask::Hello(_) | Ask::All => None,
+        Ask::Hello(_) | Ask::All | Ask::SyncAll { .. } => None,
     }
 }
 
-/// Whether a sync of this holder comes before a call of the client. It does if no client is given.
-pub fn is_awaited(client: Option<ClientId>, holder: ClientId) -> bool
-    ensures { result ≡ is_awaited client holder }
+// Whether one of some held syncs is this client's.
+fn has_sync_of(held: &[HeldSync], client: ClientId) -> bool
+    ensures { result ≡ list_any (λ (sync : HeldSync). same_client sync.client client) held.now }
+{
+    held.iter().any(|sync| sync.client == client)
+}
+
+/// Whether held syncs come before a call of this client: one of them is its own. They do if no client is given.
+pub fn are_due(client: Option<ClientId>, held: &[HeldSync]) -> bool
+    ensures { result ≡ are_due client (map (λ (sync : HeldSync). sync.client) held.now) }
 {
     match client {
-        Some(client) => holder == client,
+        Some(client) => has_sync_of(held, client),
         None => true,
     }
 }

@@ -10,6 +10,7 @@ mod leave;
 mod left;
 mod session;
 mod stream;
+mod sync_all;
 mod syncs;
 mod texts;
 mod waiting;

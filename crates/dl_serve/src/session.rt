@@ -63,8 +63,8 @@ pub fn add_client<A: Allocator>(
     Ok(())
 }
 
-// Adds the frames of notices in their order.
-fn push_notices<A: Allocator>(
+/// Adds the frames of notices in their order.
+pub fn push_notices<A: Allocator>(
     frames: &mut Vec<u8, A>,
     deliveries: &[Delivery<A>],
 ) -> Result<(), ServeFault>

@@ -59,10 +59,10 @@ pub enum Stop {
 /// input ends or a frame is too long. Then the clients leave, and what waits is written; if the device fails at that it is
 /// tried again a few times, and what is left after the last try is told.
 ///
-/// A sync is done once no whole frame is left of what was read, or before its client calls again, so that syncs which come
-/// together find all that came with them. All else is done in its order. Answers are written once no whole frame is left of
-/// what was read, or if they have more than a mebibyte, and nothing is read meanwhile. If the input or the output fails, the
-/// clients leave all the same.
+/// Syncs are held until no whole frame is left of what was read, or until a request has to come after one of them, so that those
+/// which come together find all that came with them; then all are done. All else is done in its order. Answers are written once
+/// no whole frame is left of what was read, before the syncs that are held then and again after them, or if they have more than
+/// a mebibyte, and nothing is read meanwhile. If the input or the output fails, the clients leave all the same.
 pub fn serve<R: Read, W: Write, D: Disk + Drop, A: Allocator + Copy>(
     alloc: A,
     input: &mut R,
@@ -130,27 +130,31 @@ impl<A: Allocator + Copy> Session<A> {
             × IsStopped stop unread.new.items) }
         ensures sent { OnOk result (self.new.frames.items ≡ []) }
     {
-        let (at, stop) = self.serve_frames(unread.as_slice(), hub)?;
-        self.send(output)?;
+        let (at, stop) = self.serve_frames(unread.as_slice(), output, hub)?;
         drop(unread.drain(..at));
         Ok(stop)
     }
 
-    // Serves the whole frames at the front of some bytes, and returns how many bytes they have. A sync waits for what came with
-    // it, but not for a later call of its client.
-    fn serve_frames<D: Disk + Drop>(
+    // Serves the whole frames at the front of some bytes, writes the answers, and returns how many bytes the frames have. The
+    // syncs that are held to the end wait for the device, so all other answers are written before they are done.
+    fn serve_frames<W: Write, D: Disk + Drop>(
         &mut self,
         bytes: &[u8],
+        output: &mut W,
         hub: &mut Hub<D, A>,
     ) -> Result<(usize, Stop), ServeFault>
+        requires { self.old.frames.items ≡ [] }
         ensures served { IfOk result (λ r. (texts : List (List ℕ)) × (frames : List ℕ) × (bytes.now ≡ flat_map frame_text texts ++ drop r.0 bytes.now)
-            × Chain (IsServed D.state) (arranged A texts) (stage_of hub.old self.old) (stage_of hub.new self.new) frames × (self.new.frames.items ≡ self.old.frames.items ++ frames)
+            × Chain (IsServed D.state) (arranged A texts) (stage_of hub.old self.old) (stage_of hub.new self.new) frames × Appends (W.contents output.old) (W.contents output.new) frames
             × IsStopped r.1 (drop r.0 bytes.now)) }
+        ensures sent { OnOk result (self.new.frames.items ≡ []) }
         ensures within { IfOk result (λ r. r.0 ≤ length bytes.now) }
     {
         let mut held = Vec::new(self.alloc);
         let taken = self.take_frames(bytes, &mut held, hub)?;
+        self.send(output)?;
         self.sync_held(None, &mut held, hub)?;
+        self.send(output)?;
         Ok(taken)
     }
 

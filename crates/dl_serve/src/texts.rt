@@ -102,6 +102,7 @@ impl<A: Allocator + Copy> Session<A> {
                 self.flush_all(tag, hub)?;
                 Ok(())
             }
+            Ask::SyncAll { client, logs } => self.sync_all(tag, client, logs, hub),
         }
     }
 

@@ -3,4 +3,5 @@ mod folder;
 mod fuse;
 mod memory;
 mod place;
+mod reasons;
 mod rig;

@@ -1,13 +1,13 @@
 -- Items are read where they are written, alone and in lists.
-use Rattle.std.proofs.Common.{◌≡◌, ◌≤◌, ℕ, zero, suc, List, [], ◌∷◌, ◌++◌, true, false, cond, ltb, length, take, drop, Ok, Err, refl, sym, ap, subst, ◌∙◌, append_assoc, arith}
-use Rattle.std.specs.List.{flat_map, AllByRecursion}
+use Rattle.std.proofs.Common.{◌≡◌, ◌≤◌, ℕ, List, ◌++◌, true, false, cond, ltb, length, take, drop, Ok, Err, refl, sym, subst, ◌∙◌, arith}
+use Rattle.std.specs.List.{flat_map}
 use Rattle.std.proofs.lemmas.Bool.{ltb-true, lt-ltb, ltb-false, le-ltb}
 use Rattle.std.proofs.lemmas.List.{take_at, drop_at, take-append-drop, length-append, length-take}
-use Rattle.std.proofs.lemmas.List.Concat.{flat_map-cons}
 use Rattle.dl_types.specs.declared.limits.TheConstants.{ITEM_LIMIT}
 use Rattle.dl_wire.specs.Fits.{IsItem, AreItems}
 use Rattle.dl_wire.specs.Parts.{u32_text, bytes_text, list_text}
-use Rattle.dl_wire.specs.Reading.{◌>>=◌, item_at, items_at, list_at}
+use Rattle.dl_wire.specs.Reading.{◌>>=◌, item_at, many_at, list_at}
+use Rattle.dl_wire.proofs.Many.{many_take, many_again}
 use Rattle.dl_wire.proofs.Parts.{IsBytes, IsBytes-drop, bind_ok, guard_ok, wanted_ok, ok_is, Takes, Takes-then, TakesAs, Reads, reads_u32, first_takes, first_again}
 
 item_takes : (bytes : List ℕ) (x : List ℕ × List ℕ) → IsBytes bytes → item_at bytes ≡ Ok x → TakesAs bytes_text IsItem bytes x
@@ -39,33 +39,13 @@ item_again item rest fit =
 pub reads_item : Reads item_at bytes_text IsItem
 reads_item = record { takes = item_takes; again = item_again }
 
-items_take : (n : ℕ) (bytes : List ℕ) (x : List (List ℕ) × List ℕ) → IsBytes bytes → items_at n bytes ≡ Ok x
-    → Takes bytes (flat_map bytes_text x.0) x.1 × (length x.0 ≡ n) × AllByRecursion IsItem x.0
-unfolding items_at
-items_take zero bytes x fits e =
-    subst (λ (y : List (List ℕ) × List ℕ). Takes bytes (flat_map bytes_text y.0) y.1 × (length y.0 ≡ 0) × AllByRecursion IsItem y.0) (ok_is ([], bytes) x e) (record { parts = refl; rest_fits = fits }, refl, tt)
-items_take (suc n) bytes x fits e =
-    let p = first_takes reads_item (λ first. items_at n first.1 >>= λ others. Ok (first.0 ∷ others.0, others.1)) bytes x fits e in
-    let q = bind_ok (items_at n p.0.1) (λ others. Ok (p.0.0 ∷ others.0, others.1)) x p.2 in
-    let second = items_take n p.0.1 q.0 p.1.0.rest_fits q.1 in
-    let both = Takes-then bytes (bytes_text p.0.0) p.0.1 (flat_map bytes_text q.0.0) q.0.1 p.1.0 second.0 in
-    let made : List (List ℕ) × List ℕ = (p.0.0 ∷ q.0.0, q.0.1) in
-    subst (λ (y : List (List ℕ) × List ℕ). Takes bytes (flat_map bytes_text y.0) y.1 × (length y.0 ≡ suc n) × AllByRecursion IsItem y.0) (ok_is made x q.2) (rw flat_map-cons both, ap suc second.1, (p.1.1, second.2))
-
-items_again : (items : List (List ℕ)) (rest : List ℕ) → AllByRecursion IsItem items → items_at (length items) (flat_map bytes_text items ++ rest) ≡ Ok (items, rest)
-unfolding items_at
-items_again [] rest fits = refl
-items_again (item ∷ items) rest fits =
-    let regrouped : flat_map bytes_text (item ∷ items) ++ rest ≡ bytes_text item ++ (flat_map bytes_text items ++ rest) = ap (λ (x : List ℕ). x ++ rest) (flat_map-cons bytes_text item items) ∙ append_assoc (bytes_text item) (flat_map bytes_text items) rest in
-    ap (items_at (suc (length items))) regrouped ∙ rw (item_again item (flat_map bytes_text items ++ rest) fits.0, items_again items rest fits.1) refl
-
 list_takes : (bytes : List ℕ) (x : List (List ℕ) × List ℕ) → IsBytes bytes → list_at bytes ≡ Ok x → TakesAs (list_text bytes_text) AreItems bytes x
 unfolding list_at
 list_takes bytes x fits e =
-    let p = first_takes reads_u32 (λ n. items_at n.0 n.1 >>= λ items. cond (ltb 0 (length items.0)) (Ok items) (Err (length bytes))) bytes x fits e in
-    let q = bind_ok (items_at p.0.0 p.0.1) (λ items. cond (ltb 0 (length items.0)) (Ok items) (Err (length bytes))) x p.2 in
+    let p = first_takes reads_u32 (λ n. many_at item_at n.0 n.1 >>= λ items. cond (ltb 0 (length items.0)) (Ok items) (Err (length bytes))) bytes x fits e in
+    let q = bind_ok (many_at item_at p.0.0 p.0.1) (λ items. cond (ltb 0 (length items.0)) (Ok items) (Err (length bytes))) x p.2 in
     let g = wanted_ok (ltb 0 (length q.0.0)) (length bytes) (Ok q.0) x q.2 in
-    let second = items_take p.0.0 p.0.1 q.0 p.1.0.rest_fits q.1 in
+    let second = many_take reads_item p.0.0 p.0.1 q.0 p.1.0.rest_fits q.1 in
     let both = Takes-then bytes (u32_text p.0.0) p.0.1 (flat_map bytes_text q.0.0) q.0.1 p.1.0 second.0 in
     let whole : Takes bytes (list_text bytes_text q.0.0) q.0.1 = subst (λ (k : ℕ). Takes bytes (u32_text k ++ flat_map bytes_text q.0.0) q.0.1) (sym second.1) both in
     subst (λ (y : List (List ℕ) × List ℕ). TakesAs (list_text bytes_text) AreItems bytes y) (ok_is q.0 x g.1)
@@ -75,8 +55,8 @@ list_again : (items : List (List ℕ)) (rest : List ℕ) → AreItems items → 
 unfolding list_at
 list_again items rest are =
     let some : ltb 0 (length items) ≡ true = lt-ltb 0 (length items) are.some in
-    first_again reads_u32 (λ n. items_at n.0 n.1 >>= λ items. cond (ltb 0 (length items.0)) (Ok items) (Err _)) (length items) (flat_map bytes_text items) rest are.few
-    ∙ rw (items_again items rest are.each, some) refl
+    first_again reads_u32 (λ n. many_at item_at n.0 n.1 >>= λ items. cond (ltb 0 (length items.0)) (Ok items) (Err _)) (length items) (flat_map bytes_text items) rest are.few
+    ∙ rw (many_again reads_item items rest are.each, some) refl
 
 pub reads_list : Reads list_at (list_text bytes_text) AreItems
 reads_list = record { takes = list_takes; again = list_again }

@@ -1,5 +1,6 @@
 pub mod Parts
 pub mod Names
+pub mod Many
 pub mod Items
 pub mod Loop
 pub mod Places

@@ -23,8 +23,9 @@ use Rattle.dl_wire.specs.Parts.{u16_text, u32_text, short_text}
 use Rattle.dl_wire.specs.Reading.{Read, ◌>>=◌, choice_at, name_at}
 use Rattle.dl_wire.specs.Request.{call_code, call_text, ask_text, request_text}
 use Rattle.dl_wire.proofs.Calls.{verb_code, verb_of, code_of_verb, call_takes, call_again}
+use Rattle.dl_wire.proofs.Many.{names_text, reads_names}
 use Rattle.dl_wire.proofs.Names.{reads_name}
-use Rattle.dl_wire.proofs.Parts.{IsBytes, bind_ok, wanted_ok, done, ok_is, made_of, Takes, Takes-then, TakesAs, Reads, first_then, first_again, one_takes, one_again, reads_u16, reads_u32, reads_choice}
+use Rattle.dl_wire.proofs.Parts.{IsBytes, bind_ok, wanted_ok, done, ok_is, made_of, Takes, Takes-then, TakesAs, Reads, first_then, first_again, one_takes, one_again, two_takes, two_again, reads_u16, reads_u32, reads_choice}
 
 -- ---- what is asked for, by its number
 
@@ -34,6 +35,7 @@ op_code (op.Call verb) = verb_code verb
 op_code op.Exit = 15
 op_code op.Flush = 16
 op_code op.All = 17
+op_code op.SyncAll = 18
 
 op_found : (o : Op) → slice_get ops (op_code o) ≡ Some o
 op_found op.Hello = refl
@@ -54,11 +56,12 @@ op_found (op.Call verb.Close) = refl
 op_found op.Exit = refl
 op_found op.Flush = refl
 op_found op.All = refl
+op_found op.SyncAll = refl
 
 reads_op : Reads (choice_at ops) (λ o. op_code o ∷ []) (λ o. ⊤)
 reads_op =
     reads_choice op_code ops
-    (refl, (refl, (refl, (refl, (refl, (refl, (refl, (refl, (refl, (refl, (refl, (refl, (refl, (refl, (refl, (refl, (refl, (refl, tt))))))))))))))))))
+    (refl, (refl, (refl, (refl, (refl, (refl, (refl, (refl, (refl, (refl, (refl, (refl, (refl, (refl, (refl, (refl, (refl, (refl, (refl, tt)))))))))))))))))))
     op_found
 
 -- ---- clients
@@ -87,6 +90,7 @@ module _ {Z : Type 0} where
   ask_code (ask.Event (event.Exit client)) = 15
   ask_code (ask.Event event.Flush) = 16
   ask_code ask.All = 17
+  ask_code (ask.SyncAll client logs) = 18
 
   abbrev ask_parts : Ask Z → List ℕ
   ask_parts (ask.Hello version) = u16_text version
@@ -94,6 +98,7 @@ module _ {Z : Type 0} where
   ask_parts (ask.Event (event.Exit client)) = u32_text client.0
   ask_parts (ask.Event event.Flush) = []
   ask_parts ask.All = []
+  ask_parts (ask.SyncAll client logs) = u32_text client.0 ++ names_text logs
 
   ask_split : (a : Ask Z) → ask_text a ≡ ask_code a ∷ ask_parts a
   ask_split (ask.Hello version) = refl
@@ -101,6 +106,7 @@ module _ {Z : Type 0} where
   ask_split (ask.Event (event.Exit client)) = refl
   ask_split (ask.Event event.Flush) = refl
   ask_split ask.All = refl
+  ask_split (ask.SyncAll client logs) = refl
 
   -- what has this number
   abbrev IsOfOp : Op → Ask Z → Type 0
@@ -112,6 +118,7 @@ module _ {Z : Type 0} where
   op_of (ask.Event (event.Exit client)) = op.Exit
   op_of (ask.Event event.Flush) = op.Flush
   op_of ask.All = op.All
+  op_of (ask.SyncAll client logs) = op.SyncAll
 
   code_of_op : (a : Ask Z) → op_code (op_of a) ≡ ask_code a
   code_of_op (ask.Hello version) = refl
@@ -119,6 +126,7 @@ module _ {Z : Type 0} where
   code_of_op (ask.Event (event.Exit client)) = refl
   code_of_op (ask.Event event.Flush) = refl
   code_of_op ask.All = refl
+  code_of_op (ask.SyncAll client logs) = refl
 
   abbrev call_on : ClientId → Name → Call Z → Event Z
   call_on client log call = event.Call client log call
@@ -155,6 +163,9 @@ module _ {Z : Type 0} where
       subst (λ (z : Ask Z × List ℕ). TakesAs ask_parts (IsOfOp o) bytes z) (ok_is (a, bytes) y e)
       (subst (λ (t : List ℕ). Takes bytes t bytes) (sym none) (record { parts = refl; rest_fits = fits }), is)
 
+  abbrev sync_all : ClientId → List Name → Ask Z
+  sync_all client logs = ask.SyncAll client logs
+
   asked_takes : (o : Op) (bytes : List ℕ) (y : Ask Z × List ℕ) → IsBytes bytes → asked_at o bytes ≡ Ok y → TakesAs ask_parts (IsOfOp o) bytes y
   unfolding asked_at
   asked_takes op.Hello = one_takes reads_u16 ask.Hello ask_parts (IsOfOp op.Hello) (λ n fit. refl) (λ n fit. (fit, refl))
@@ -164,6 +175,7 @@ module _ {Z : Type 0} where
   asked_takes op.Exit = one_takes reads_client (λ c. ask.Event (event.Exit c)) ask_parts (IsOfOp op.Exit) (λ c fit. refl) (λ c fit. (fit, refl))
   asked_takes op.Flush = bare_takes op.Flush (ask.Event event.Flush) refl (tt, refl)
   asked_takes op.All = bare_takes op.All ask.All refl (tt, refl)
+  asked_takes op.SyncAll = two_takes reads_client reads_names sync_all ask_parts (IsOfOp op.SyncAll) (λ client logs. refl) (λ client logs fit also. ((fit, also), refl))
 
   asked_again : (a : Ask Z) (rest : List ℕ) → IsAsk a → asked_at (op_of a) (ask_parts a ++ rest) ≡ Ok (a, rest)
   unfolding asked_at
@@ -172,6 +184,7 @@ module _ {Z : Type 0} where
   asked_again (ask.Event (event.Exit client)) rest fit = one_again reads_client (λ c. ask.Event (event.Exit c)) client rest fit
   asked_again (ask.Event event.Flush) rest fit = refl
   asked_again ask.All rest fit = refl
+  asked_again (ask.SyncAll client logs) rest fit = two_again reads_client reads_names sync_all client logs rest fit.0 fit.1
 
   -- a request of a tag
   abbrev tagged : ℕ → Ask Z → Request Z

@@ -29,7 +29,7 @@ use Rattle.dl_wire.specs.declared.op.Verb.TheVariants as verb
 use Rattle.dl_wire.specs.declared.request.Ask.{Ask}
 use Rattle.dl_wire.specs.declared.request.Ask.TheVariants as ask
 use Rattle.dl_wire.specs.declared.request.Request.{Request}
-use Rattle.dl_wire.specs.Reading.{Read, ◌>>=◌, number_at, i32_at, choice_at, name_at, base_at, item_at, list_at, option_at, size_at}
+use Rattle.dl_wire.specs.Reading.{Read, ◌>>=◌, number_at, i32_at, choice_at, name_at, base_at, item_at, list_at, names_at, option_at, size_at}
 
 abbrev pub bools : List Bool
 bools = false ∷ true ∷ []
@@ -51,7 +51,7 @@ abbrev pub ops : List Op
 ops =
     op.Hello ∷ op.Call verb.Open ∷ op.Call verb.Log ∷ op.Call verb.Alog ∷ op.Call verb.Chunk ∷ op.Call verb.ChunkStep
     ∷ op.Call verb.Truncate ∷ op.Call verb.Reopen ∷ op.Call verb.NextFile ∷ op.Call verb.ChangeSize ∷ op.Call verb.Sync
-    ∷ op.Call verb.Block ∷ op.Call verb.Unblock ∷ op.Call verb.Info ∷ op.Call verb.Close ∷ op.Exit ∷ op.Flush ∷ op.All ∷ []
+    ∷ op.Call verb.Block ∷ op.Call verb.Unblock ∷ op.Call verb.Info ∷ op.Call verb.Close ∷ op.Exit ∷ op.Flush ∷ op.All ∷ op.SyncAll ∷ []
 
 -- a position in the log of this name
 unfoldable pub position_at : Name → List ℕ → Read Continuation
@@ -147,6 +147,10 @@ module _ {Z : Type 0} where
     Ok (ask.Event (event.Exit client.0), client.1)
   asked_at op.Flush bytes = Ok (ask.Event event.Flush, bytes)
   asked_at op.All bytes = Ok (ask.All, bytes)
+  asked_at op.SyncAll bytes = do
+    client ← client_at bytes
+    logs ← names_at client.1
+    Ok (ask.SyncAll client.0 logs.0, logs.1)
 
   -- a tag, a number, and the parts; and no bytes after them
   unfoldable pub whole_at : List ℕ → Result (Request Z) ℕ

@@ -35,6 +35,11 @@ pub record AreItems (items : List (List ℕ)) : Type 0 where
   pub few : length items < 2 ^ 32
   pub each : AllByRecursion IsItem items
 
+-- so many names that their number has four bytes
+pub record AreNames (names : List Name) : Type 0 where
+  pub few : length names < 2 ^ 32
+  pub each : AllByRecursion IsName names
+
 abbrev pub IsSize : Size → Type 0
 IsSize size.Infinity = ⊤
 IsSize (size.Limit n) = n < 2 ^ 64
@@ -78,6 +83,7 @@ module _ {Z : Type 0} where
   IsAsk (ask.Hello version) = version < 2 ^ 16
   IsAsk (ask.Event event) = IsEvent event
   IsAsk ask.All = ⊤
+  IsAsk (ask.SyncAll client logs) = (client.0 < 2 ^ 32) × AreNames logs
 
   abbrev pub IsRequest : Request Z → Type 0
   IsRequest r = (r.tag < 2 ^ 32) × IsAsk r.ask

@@ -4,3 +4,4 @@ pub mod Fits
 pub mod Reading
 pub mod Decode
 pub mod Answer
+pub mod Unsynced

@@ -72,19 +72,26 @@ item_at bytes = do
   n ← number_at w32 bytes
   if nat_lt ITEM_LIMIT n.0 then Err (length bytes) else if nat_lt (length n.1) n.0 then Err (length bytes) else Ok (take n.0 n.1, drop n.0 n.1)
 
-unfoldable pub items_at : ℕ → List ℕ → Read (List (List ℕ))
-items_at zero bytes = Ok ([], bytes)
-items_at (suc n) bytes = do
-  first ← item_at bytes
-  others ← items_at n first.1
+-- so many parts, one after another
+unfoldable pub many_at : {X : Type 0} → (List ℕ → Read X) → ℕ → List ℕ → Read (List X)
+many_at part_at zero bytes = Ok ([], bytes)
+many_at part_at (suc n) bytes = do
+  first ← part_at bytes
+  others ← many_at part_at n first.1
   Ok (first.0 ∷ others.0, others.1)
 
 -- items after their number, of which there is at least one
 unfoldable pub list_at : List ℕ → Read (List (List ℕ))
 list_at bytes = do
   n ← number_at w32 bytes
-  items ← items_at n.0 n.1
+  items ← many_at item_at n.0 n.1
   if nat_lt 0 (length items.0) then Ok items else Err (length bytes)
+
+-- names after their number
+unfoldable pub names_at : List ℕ → Read (List Name)
+names_at bytes = do
+  n ← number_at w32 bytes
+  many_at name_at n.0 n.1
 
 -- a part that may be missing
 unfoldable pub option_at : {X : Type 0} → (List ℕ → Read X) → List ℕ → Read (Option X)

@@ -70,6 +70,7 @@ module _ {Z : Type 0} where
   ask_text (ask.Hello version) = 0 ∷ u16_text version
   ask_text (ask.Event event) = event_text event
   ask_text ask.All = 17 ∷ []
+  ask_text (ask.SyncAll client logs) = 18 ∷ (u32_text client.0 ++ list_text (λ log. short_text (name_text log)) logs)
 
   -- a request: its tag, and what it asks for
   abbrev pub request_text : Request Z → List ℕ

@@ -30,8 +30,8 @@ fn push_turn<A: Allocator>(out: &mut Vec<u8, A>, turn: Turn) -> Result<(), Alloc
     Ok(())
 }
 
-// The kind of a reply, and its parts.
-fn push_reply<A: Allocator>(out: &mut Vec<u8, A>, reply: &Reply<A>) -> Result<(), EncodeFault>
+/// The kind of a reply, and its parts.
+pub fn push_reply<A: Allocator>(out: &mut Vec<u8, A>, reply: &Reply<A>) -> Result<(), EncodeFault>
     ensures { OnOk result (out.new.items ≡ out.old.items ++ reply_text reply.now) }
 {
     match reply {

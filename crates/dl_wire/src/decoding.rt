@@ -8,6 +8,7 @@ ghost use Rattle.dl_wire.specs.Reading.{Gives, choice_at};
 ghost use Rattle.dl_wire.specs.Request.{request_text};
 
 use crate::fault::{DecodeFault, ReadFault};
+use crate::lists::names_at;
 use crate::op::{Op, Verb};
 use crate::reading::{
     base_at, choice_at, i32_at, list_at, name_at, size_at, some_base_at, some_item_at,
@@ -69,6 +70,7 @@ fn op_at(bytes: &[u8]) -> Result<(Op, &[u8]), ReadFault>
         Op::Exit,
         Op::Flush,
         Op::All,
+        Op::SyncAll,
     ];
     choice_at(&ops, bytes)
 }
@@ -97,6 +99,11 @@ fn asked_at<A: Allocator + Copy>(
         }
         Op::Flush => Ok((Ask::Event(Event::Flush), bytes)),
         Op::All => Ok((Ask::All, bytes)),
+        Op::SyncAll => {
+            let (client, rest) = client_at(bytes)?;
+            let (logs, rest) = names_at(alloc, rest)?;
+            Ok((Ask::SyncAll { client, logs }, rest))
+        }
     }
 }
 

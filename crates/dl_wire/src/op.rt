@@ -8,6 +8,7 @@ pub enum Op {
     Exit,
     Flush,
     All,
+    SyncAll,
 }
 
 /// Which call on a log.

@@ -1,7 +1,7 @@
 // The parts of a frame, each read from the front of some bytes.
 ghost use Rattle.std.specs.Prelude.{◌≡◌, ℕ, List, length};
 ghost use Rattle.std.specs.Int.{w16, w32, w64};
-ghost use Rattle.dl_wire.specs.Reading.{Gives, number_at, i32_at, choice_at, short_at, name_at, base_at, item_at, items_at, list_at, option_at, size_at};
+ghost use Rattle.dl_wire.specs.Reading.{Gives, number_at, i32_at, choice_at, short_at, name_at, base_at, item_at, many_at, list_at, option_at, size_at};
 
 use crate::fault::ReadFault;
 use dl_types::{Base, ITEM_LIMIT, Item, Items, Name, Size};
@@ -186,7 +186,7 @@ fn items_at<A: Allocator + Copy>(
     count: u32,
     bytes: &[u8],
 ) -> Result<(Vec<Item<A>, A>, &[u8]), ReadFault>
-    ensures { Gives (λ x. (x.0.items, x.1.now)) result (items_at count bytes.now) }
+    ensures { Gives (λ x. (x.0.items, x.1.now)) result (many_at item_at count bytes.now) }
 {
     let mut items = Vec::new(alloc);
     let mut rest = bytes;

@@ -1,5 +1,6 @@
 // What a program asks for.
-use dl_types::Event;
+use crate::log_names::LogNames;
+use dl_types::{ClientId, Event};
 use std::alloc::{Allocator, Global};
 
 /// What a program asks for in one frame.
@@ -19,4 +20,6 @@ pub enum Ask<A: Allocator = Global> {
     Event(Event<A>),
     /// Everything that waits is written.
     All,
+    /// A sync of each of these logs, or of all that are open if none is named, in one answer.
+    SyncAll { client: ClientId, logs: LogNames<A> },
 }

@@ -4,8 +4,7 @@ ghost use Rattle.std.specs.Process.{exit_status};
 ghost use Rattle.dlog.specs.Status.{append_status};
 
 use crate::closed::{tell_finished, tell_lingering};
-use crate::faults::{Failure, Place, advise, say, tell_failure};
-use crate::noted::Why;
+use crate::faults::{Failure, Place, Whys, advise, say, tell_failure};
 use crate::{FAILED, tell};
 use dl_pipe::{Appended, Closing, Cut, PipeFault, Source, Stage, Stop, Syncs};
 use dl_tool::Closed;
@@ -26,20 +25,20 @@ pub struct Report<'a> {
 pub fn end(
     rt: &HostRuntime,
     report: Report<'_>,
-    why: Why,
+    whys: Whys,
     done: Result<Appended, PipeFault>,
 ) -> ExitCode
     ensures appended { IfOk done (λ appended. exit_status result ≡ append_status appended.stopped) }
     ensures refused { OnErr done (exit_status result ≡ 1) }
 {
     match done {
-        Ok(appended) => tell_appended(rt, report, why, appended),
-        Err(fault) => tell_failure(rt, report.place, Failure { fault, why }, FAILED),
+        Ok(appended) => tell_appended(rt, report, whys, appended),
+        Err(fault) => tell_failure(rt, report.place, Failure { fault, whys }, FAILED),
     }
 }
 
 // Says what was repaired, whether the device failed at the close, and where the append stopped.
-fn tell_appended(rt: &HostRuntime, report: Report<'_>, why: Why, appended: Appended) -> ExitCode
+fn tell_appended(rt: &HostRuntime, report: Report<'_>, whys: Whys, appended: Appended) -> ExitCode
     ensures { exit_status result ≡ append_status appended.stopped }
 {
     let log = report.place.log;
@@ -50,7 +49,7 @@ fn tell_appended(rt: &HostRuntime, report: Report<'_>, why: Why, appended: Appen
         tell_finished(rt, log, file);
     }
     match appended.stopped {
-        Some(stop) => tell_stop(rt, report, why, stop, appended),
+        Some(stop) => tell_stop(rt, report, whys, stop, appended),
         None => ExitCode::SUCCESS,
     }
 }
@@ -71,14 +70,15 @@ fn tell_repair(rt: &HostRuntime, report: Report<'_>, cut: Cut) {
 fn tell_stop(
     rt: &HostRuntime,
     report: Report<'_>,
-    why: Why,
+    whys: Whys,
     stop: Stop,
     appended: Appended,
 ) -> ExitCode
     ensures { exit_status result ≡ 1 }
 {
     let fault = stop.fault;
-    let told = tell_stage(rt, report, Failure { fault, why }, stop.at, appended.items);
+    let failure = Failure { fault, whys };
+    let told = tell_stage(rt, report, failure, stop.at, appended.items);
     if let Closing::Lingers(_) = appended.closing {
         let (_, many) = words_of(report.source);
         tell_lingering(rt, many);
@@ -87,7 +87,7 @@ fn tell_stop(
     if let (Stage::Item, Syncs::Every(_)) = (stop.at, report.syncs) {
         tell_unsynced(rt, report, fault, appended.items);
     }
-    advise(rt, report.place, fault);
+    advise(rt, report.place, failure);
     told
 }
 

@@ -5,6 +5,7 @@ ghost use Rattle.dlog.specs.Status.{closing_status};
 
 use crate::FAILED;
 use crate::faults::{Failure, Place, say, tell_failure};
+use dl_disk::Reason;
 use dl_pipe::{Closing, PipeFault};
 use dl_types::{FileName, Name, Refusal};
 use std::process::ExitCode;
@@ -26,8 +27,13 @@ pub fn tell_lingering(rt: &HostRuntime, what: &str) {
     );
 }
 
-/// Says what became of the close of a log that was repaired.
-pub fn tell_closing(rt: &HostRuntime, place: Place<'_>, closing: Closing) -> ExitCode
+/// Says what became of the close of a log that was repaired, by why the system refused a file last.
+pub fn tell_closing(
+    rt: &HostRuntime,
+    place: Place<'_>,
+    closing: Closing,
+    reason: Option<Reason>,
+) -> ExitCode
     ensures { exit_status result ≡ closing_status closing }
 {
     match closing {
@@ -38,13 +44,13 @@ pub fn tell_closing(rt: &HostRuntime, place: Place<'_>, closing: Closing) -> Exi
         }
         Closing::Lingers(file) => {
             let fault = PipeFault::Refused(Refusal::DeviceFault(file));
-            let told = tell_failure(rt, place, Failure::of(fault), FAILED);
+            let told = tell_failure(rt, place, Failure::of(fault, reason), FAILED);
             say(
                 rt,
                 "the close was tried again in vain: the log needs a repair still",
             );
             told
         }
-        Closing::Refused(fault) => tell_failure(rt, place, Failure::of(fault), FAILED),
+        Closing::Refused(fault) => tell_failure(rt, place, Failure::of(fault, reason), FAILED),
     }
 }

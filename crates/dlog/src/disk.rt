@@ -1,5 +1,6 @@
 // The disk over which a command works.
 use crate::folder::rolls_word;
+use crate::reporting::ReportingDisk;
 use crate::{FAILED, MISUSED, tell};
 use clap::{Arg, ArgMatches, Command, value_parser};
 use dl_disk::{FolderDisk, MemoryDisk, OpenFault, Syncs};
@@ -31,7 +32,7 @@ pub enum ChosenDisk {
     /// Its files are in memory.
     Memory(MemoryDisk),
     /// Its files are those of a folder.
-    Folder(FolderDisk<HostRuntime>),
+    Folder(ReportingDisk<FolderDisk<HostRuntime>>),
 }
 
 /// The disk of a command, and the blocks of its cache.
@@ -47,12 +48,24 @@ pub fn choose(rt: &HostRuntime, options: &ArgMatches<'_>) -> Result<Chosen, Exit
     };
     let disk = match options.get_str("folder") {
         None => ChosenDisk::Memory(MemoryDisk::new(rt.alloc())),
-        Some(path) => match open_folder(rt, options, path) {
+        Some(path) => match open_reporting(rt, options, path) {
             Ok(disk) => ChosenDisk::Folder(disk),
             Err(fault) => return Err(tell_unopened(rt, path, fault, FAILED)),
         },
     };
     Ok(Chosen { disk, blocks })
+}
+
+// The disk over the folder at this path, which says why its calls fail.
+fn open_reporting(
+    rt: &HostRuntime,
+    options: &ArgMatches<'_>,
+    path: &str,
+) -> Result<ReportingDisk<FolderDisk<HostRuntime>>, OpenFault> {
+    let disk = open_folder(rt, options, path)?;
+    let own = rt.clone().map_err(|_| OpenFault::OutOfMemory)?;
+    let folder = String::from_str(rt.alloc(), path)?;
+    Ok(ReportingDisk::new(own, disk, folder))
 }
 
 /// The disk over the folder at this path.

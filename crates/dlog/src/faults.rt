@@ -3,7 +3,9 @@ ghost use Rattle.std.specs.Prelude.{◌≡◌};
 ghost use Rattle.std.specs.Process.{exit_status};
 
 use crate::noted::Why;
+use crate::reasons::say_reason;
 use crate::tell;
+use dl_disk::Reason;
 use dl_pipe::PipeFault;
 use dl_types::{Base, FileName, Name, Part, Refusal};
 use std::fmt::Display;
@@ -21,26 +23,36 @@ pub struct Place<'a> {
     pub writes: bool,
 }
 
-/// A fault of the work on a log, and why the system refused a stream if it is one of a stream.
+/// Why the system refused what a command asked of it, as far as that is known.
+#[derive(Clone, Copy)]
+pub struct Whys {
+    /// Why it refused the stream that is read or written.
+    pub stream: Why,
+    /// Why it refused a file of a log last.
+    pub file: Option<Reason>,
+}
+
+/// A fault of the work on a log, and why the system refused what was asked of it.
 #[derive(Clone, Copy)]
 pub struct Failure {
     pub fault: PipeFault,
-    pub why: Why,
+    pub whys: Whys,
 }
 
 impl Failure {
-    /// A fault that is none of a stream.
-    pub fn of(fault: PipeFault) -> Failure {
+    /// A fault that is none of a stream, by why the system refused a file last.
+    pub fn of(fault: PipeFault, file: Option<Reason>) -> Failure {
+        let stream = Why(None);
         Failure {
             fault,
-            why: Why(None),
+            whys: Whys { stream, file },
         }
     }
 }
 
 impl Display for Failure {
     fn fmt<W: fmt::Write>(&self, f: &mut fmt::Formatter<W>) -> fmt::Result {
-        let why = self.why;
+        let why = self.whys.stream;
         match self.fault {
             PipeFault::Refused(Refusal::NoFile) => write!(f, "no such log"),
             PipeFault::Read => write!(f, "standard input: {why}"),
@@ -56,13 +68,16 @@ pub fn tell_failure(rt: &HostRuntime, place: Place<'_>, failure: Failure, status
 {
     let log = place.log;
     let told = tell(rt, format_args!("{log}: {failure}"), status);
-    advise(rt, place, failure.fault);
+    advise(rt, place, failure);
     told
 }
 
 /// Says what to do about a fault, unless the fault says it all.
-pub fn advise(rt: &HostRuntime, place: Place<'_>, fault: PipeFault) {
-    match fault {
+pub fn advise(rt: &HostRuntime, place: Place<'_>, failure: Failure) {
+    match failure.fault {
+        PipeFault::Refused(Refusal::DeviceFault(file)) => {
+            advise_on_device(rt, place, file, failure.whys.file)
+        }
         PipeFault::Refused(refusal) => advise_on_refusal(rt, place, refusal),
         PipeFault::Torn => say(rt, "dlog dump --raw writes what --raw reads"),
         PipeFault::NotEscaped => say(
@@ -70,6 +85,14 @@ pub fn advise(rt: &HostRuntime, place: Place<'_>, fault: PipeFault) {
             "dlog dump writes what --escaped reads; else a line is an item as it is",
         ),
         _ => {}
+    }
+}
+
+// The same for a file at which the device failed, by the reason of the last fault if it is one under the base of the file.
+fn advise_on_device(rt: &HostRuntime, place: Place<'_>, file: FileName, reason: Option<Reason>) {
+    match reason {
+        Some(reason) if reason.file.base == file.base => say_reason(rt, place.folder, reason),
+        _ => advise_on_file(rt, place.folder, file, place.writes),
     }
 }
 

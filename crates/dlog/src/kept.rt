@@ -7,6 +7,7 @@ use crate::folder::FolderOfLogs;
 use crate::noted::{Noted, Why};
 use crate::{BLOCKS, BUFFER_BYTES, MISUSED, UNCLEAN, UNREAD, tell};
 use dl_digest::{Compared, DigestLine, Extent, ListFault, Verdict, compare_log, read_lines};
+use dl_disk::Reason;
 use dl_hub::Hub;
 use dl_pipe::PipeFault;
 use dl_tool::{LogFiles, ReportFault, Style};
@@ -99,7 +100,7 @@ fn compare_in(
                 log,
                 writes: false,
             };
-            status = status.max(end(rt, place, done, style));
+            status = status.max(end(rt, place, done, hub.reason(), style));
         }
     }
     status
@@ -110,6 +111,7 @@ fn end(
     rt: &HostRuntime,
     place: Place<'_>,
     done: Result<Vec<Compared>, PipeFault>,
+    reason: Option<Reason>,
     style: Style,
 ) -> u8 {
     match done {
@@ -118,7 +120,7 @@ fn end(
         Err(PipeFault::Refused(Refusal::NoFile)) => UNCLEAN,
         Err(fault) => {
             let status = fault_status(fault);
-            let _ = tell_failure(rt, place, Failure::of(fault), status);
+            let _ = tell_failure(rt, place, Failure::of(fault, reason), status);
             status
         }
     }

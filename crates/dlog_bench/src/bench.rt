@@ -1,5 +1,6 @@
 // What a run measures, and the lines that it prints.
 use crate::fault::Fault;
+use crate::waits::Waits;
 use dl_types::{Item, Items};
 use std::alloc::Global;
 use std::fmt::Display;
@@ -36,6 +37,8 @@ pub struct Bench<'a> {
     pub blocks: u32,
     /// The threads that log through one server.
     pub threads: u32,
+    /// The one measure with threads to take, or all measures.
+    pub only: Option<&'a str>,
 }
 
 impl<'a> Bench<'a> {
@@ -46,6 +49,11 @@ impl<'a> Bench<'a> {
 }
 
 impl Bench<'_> {
+    /// Whether the measure with threads of this name is to be taken.
+    pub fn wants(&self, name: &str) -> bool {
+        self.only.is_none_or(|only| only == name)
+    }
+
     /// Prints one line.
     pub fn line(&self, name: &str, value: impl Display + Drop) -> Result<(), Fault> {
         Ok(println!(self.rt; "dlog_{name}_{}: {value}", self.place)?)
@@ -76,6 +84,23 @@ impl Bench<'_> {
     /// The items of a log that was opened in a time, or its milliseconds.
     pub fn wait(&self, name: &str, spent: Duration) -> Result<(), Fault> {
         self.show(name, self.items, "items", micros(spent), "ms")
+    }
+
+    /// How long calls waited on average and at most, in milliseconds, and how many there were.
+    pub fn waits(&self, front: &str, name: &str, waits: Waits) -> Result<(), Fault> {
+        let (mean, most) = (
+            micros(waits.total) / waits.calls.max(1),
+            micros(waits.longest),
+        );
+        Ok(println!(self.rt;
+            "dlog_{front}{name}_{}: {}.{:03} ms mean {}.{:03} ms longest of {} calls",
+            self.place,
+            mean / 1_000,
+            mean % 1_000,
+            most / 1_000,
+            most % 1_000,
+            waits.calls
+        )?)
     }
 
     /// Prints the most memory that was resident so far.

@@ -6,7 +6,7 @@ use thiserror::Error;
 
 #[derive(Clone, Copy, Debug, Error)]
 pub enum Fault {
-    #[error("give DIR, N from 1 to 100000000, and no other words but --counts, --blocks=B and --threads=T with T up to 64; --help says more")]
+    #[error("give DIR, N from 1 to 100000000, and no other words but --counts, --blocks=B, --threads=T with T up to 64 and, with threads, --only=NAME; --help says more")]
     Misused,
     #[error("out of memory")]
     OutOfMemory(#[from(alloc)] AllocError),

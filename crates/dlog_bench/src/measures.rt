@@ -14,6 +14,9 @@ const MOST_LOGS: u64 = 1_000;
 
 const FEW_LOGS: usize = 100;
 
+/// The greatest number of a log.
+pub const LAST_LOG: u64 = MOST_LOGS + 2;
+
 // A wrap log that is written one item a call, and one of many small files. Neither loses an item.
 const WRAP: &str = "bench_wrap";
 
@@ -72,7 +75,7 @@ fn path(bench: Bench<'_>, number: u64) -> Result<String, Fault> {
 
 /// Removes the files of the logs from the folder, and nothing else.
 pub fn clear(bench: Bench<'_>) -> Result<(), Fault> {
-    for number in 0..count_logs(bench) {
+    for number in 0..=LAST_LOG {
         let _there = remove(bench, path(bench, number)?.as_str())?;
     }
     clear_set(bench, WRAP)?;

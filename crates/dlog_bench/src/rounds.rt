@@ -48,6 +48,11 @@ impl Best {
         Best::new(Over::Server(Plan { way, apart, record }))
     }
 
+    // Whether the words ask for it.
+    fn is_wanted(&self, bench: Bench<'_>) -> bool {
+        bench.wants(name_of(self.over))
+    }
+
     // Takes the measure over the folder and over memory.
     fn take<R: Threads + Wait + Clock + Sync>(
         &mut self,
@@ -91,7 +96,12 @@ fn name_of(over: Over) -> &'static str {
     }
 }
 
-/// Takes all measures with threads, whose files in the folder are removed before and after.
+/// Whether one of these measures is called so.
+pub fn is_of_rounds(name: &str) -> bool {
+    measures().iter().any(|best| name_of(best.over) == name)
+}
+
+/// Takes the measures with threads, whose files in the folder are removed before and after.
 pub fn measure_rounds<R: Threads + Wait + Clock + Sync>(
     rt: &R,
     bench: Bench<'_>,
@@ -100,10 +110,10 @@ pub fn measure_rounds<R: Threads + Wait + Clock + Sync>(
     let done = take_rounds(rt, bench, &mut bests);
     clear(bench)?;
     done?;
-    for best in &bests {
+    for best in bests.iter().filter(|best| best.is_wanted(bench)) {
         bench.at("folder").items(name_of(best.over), best.folder)?;
     }
-    for best in &bests {
+    for best in bests.iter().filter(|best| best.is_wanted(bench)) {
         bench.at("memory").items(name_of(best.over), best.memory)?;
     }
     Ok(())
@@ -128,7 +138,9 @@ fn take_round<R: Threads + Wait + Clock + Sync>(
     bests: &mut [Best],
 ) -> Result<(), Fault> {
     for best in bests {
-        best.take(rt, bench)?;
+        if best.is_wanted(bench) {
+            best.take(rt, bench)?;
+        }
     }
     Ok(())
 }

@@ -38,6 +38,8 @@ impl Plan {
             (Way::Alog, false, Record::Kept) => "threads_alog_kept",
             (Way::Alog, true, Record::Off) => "threads_alog_apart_off",
             (Way::Alog, true, Record::Kept) => "threads_alog_apart_kept",
+            (Way::Sync, false, _) => "threads_sync",
+            (Way::Sync, true, _) => "threads_sync_apart",
         }
     }
 }
@@ -56,8 +58,8 @@ pub fn time_server<R: Threads + Wait + Clock + Sync, D: Disk + Drop + Send>(
     spent
 }
 
-// Has the logs opened by a client that keeps them open meanwhile.
-fn own<R: Threads + Wait + Clock + Sync, D: Disk + Drop + Send>(
+/// How long it takes to log the items by threads, with the logs opened by a client that keeps them open meanwhile.
+pub fn own<R: Threads + Wait + Clock + Sync, D: Disk + Drop + Send>(
     rt: &R,
     bench: Bench<'_>,
     server: &Server<D>,

@@ -15,6 +15,8 @@ pub enum Way {
     Log,
     /// It sends the item.
     Alog,
+    /// It waits for the answer, and for that of a sync.
+    Sync,
 }
 
 /// What a thread logs, one item a call.
@@ -53,6 +55,10 @@ fn log_items<R: Wait, D: Disk + Drop>(
         match part.way {
             Way::Log => check(&server.log(rt, client, log, items))?,
             Way::Alog => send(rt, server, client, log, items)?,
+            Way::Sync => {
+                check(&server.log(rt, client, log, items))?;
+                check(&server.sync(rt, client, log))?;
+            }
         }
     }
     Ok(())

@@ -1,6 +1,6 @@
-// The clients that send, and those that come and go.
+// The clients that send, those that sync, and those that come and go.
 use crate::work::Work;
-use dl_disk::MemoryDisk;
+use dl_disk::Disk;
 use dl_server::{AlogFault, Client, Server};
 use dl_types::{Item, Items, Kind, Name, OpenArgs, Reply, Size};
 use std::alloc::Global;
@@ -21,7 +21,13 @@ pub fn log_args() -> OpenArgs {
 }
 
 /// Sends at most so many items, until the soak ends.
-pub fn send<R: Wait>(rt: &R, alloc: Global, work: &Work<'_>, log: Name, most: u64) -> Option<()> {
+pub fn send<R: Wait, D: Disk + Drop>(
+    rt: &R,
+    alloc: Global,
+    work: &Work<'_, D>,
+    log: Name,
+    most: u64,
+) -> Option<()> {
     let mut client = work.server.connect(rt).ok()?;
     let sent = send_all(rt, alloc, work, &mut client, log, most);
     let done = work.server.exit(rt, client).ok()?;
@@ -29,10 +35,10 @@ pub fn send<R: Wait>(rt: &R, alloc: Global, work: &Work<'_>, log: Name, most: u6
     sent
 }
 
-fn send_all<R: Wait>(
+fn send_all<R: Wait, D: Disk + Drop>(
     rt: &R,
     alloc: Global,
-    work: &Work<'_>,
+    work: &Work<'_, D>,
     client: &mut Client<'_>,
     log: Name,
     most: u64,
@@ -47,10 +53,10 @@ fn send_all<R: Wait>(
 }
 
 // Sends an item, or has those before taken in if the ring of the client is full.
-fn send_one<R: Wait>(
+fn send_one<R: Wait, D: Disk + Drop>(
     rt: &R,
     alloc: Global,
-    work: &Work<'_>,
+    work: &Work<'_, D>,
     client: &mut Client<'_>,
     log: Name,
 ) -> Option<()> {
@@ -70,8 +76,48 @@ fn one_item(alloc: Global) -> Option<Items> {
     Items::of(vec![in alloc; item].ok()?).ok()
 }
 
+/// Logs at most so many items, each with a sync, until the soak ends.
+pub fn sync<R: Wait, D: Disk + Drop>(
+    rt: &R,
+    alloc: Global,
+    work: &Work<'_, D>,
+    log: Name,
+    most: u64,
+) -> Option<()> {
+    let mut client = work.server.connect(rt).ok()?;
+    let synced = sync_all(rt, alloc, work, &mut client, log, most);
+    let done = work.server.exit(rt, client).ok()?;
+    work.keep(rt, done)?;
+    synced
+}
+
+fn sync_all<R: Wait, D: Disk + Drop>(
+    rt: &R,
+    alloc: Global,
+    work: &Work<'_, D>,
+    client: &mut Client<'_>,
+    log: Name,
+    most: u64,
+) -> Option<()> {
+    for _ in 0..most {
+        if work.has_ended() {
+            break;
+        }
+        is_done(work.server.log(rt, client, log, one_item(alloc)?))?;
+        is_done(work.server.sync(rt, client, log))?;
+        work.count_synced();
+    }
+    Some(())
+}
+
 /// Comes and goes as an owner, at most so many times, until the soak ends.
-pub fn visit<R: Wait>(rt: &R, alloc: Global, work: &Work<'_>, log: Name, most: u64) -> Option<()> {
+pub fn visit<R: Wait, D: Disk + Drop>(
+    rt: &R,
+    alloc: Global,
+    work: &Work<'_, D>,
+    log: Name,
+    most: u64,
+) -> Option<()> {
     for _ in 0..most {
         if work.has_ended() {
             break;
@@ -83,7 +129,12 @@ pub fn visit<R: Wait>(rt: &R, alloc: Global, work: &Work<'_>, log: Name, most: u
 }
 
 // Comes as an owner, blocks the log, logs behind the block, and goes.
-fn visit_once<R: Wait>(rt: &R, alloc: Global, work: &Work<'_>, log: Name) -> Option<()> {
+fn visit_once<R: Wait, D: Disk + Drop>(
+    rt: &R,
+    alloc: Global,
+    work: &Work<'_, D>,
+    log: Name,
+) -> Option<()> {
     let mut client = work.server.connect(rt).ok()?;
     let attended = attend(rt, alloc, work.server, &mut client, log);
     let done = work.server.exit(rt, client).ok()?;
@@ -91,10 +142,10 @@ fn visit_once<R: Wait>(rt: &R, alloc: Global, work: &Work<'_>, log: Name) -> Opt
     attended
 }
 
-fn attend<R: Wait>(
+fn attend<R: Wait, D: Disk + Drop>(
     rt: &R,
     alloc: Global,
-    server: &Server<MemoryDisk>,
+    server: &Server<D>,
     client: &mut Client<'_>,
     log: Name,
 ) -> Option<()> {

@@ -1,8 +1,8 @@
 // All clients of a soak, each in a thread of its own.
-use crate::clients::{send, visit};
+use crate::clients::{send, sync, visit};
 use crate::watcher::{count, open_all, rolls, watch};
 use crate::work::Work;
-use dl_disk::MemoryDisk;
+use dl_disk::Disk;
 use dl_server::{Client, Done, PeriodicGate, Server};
 use dl_types::Name;
 use std::alloc::Global;
@@ -11,10 +11,12 @@ use std::thread;
 use std::thread::Threads;
 use std::time::{Clock, Duration};
 
-// How many clients send. Two more come and go, and one watches.
+// How many clients send, and how many sync each item. Two more come and go, and one watches.
 const SENDERS: usize = 5;
 
-// How many items a sender sends at most, and how often an owner comes at most, if all is kept.
+const SYNCERS: usize = 4;
+
+// How many items a sender sends at most, and how often an owner comes and an item is synced at most, if all is kept.
 const KEPT_ITEMS: u64 = 20_000;
 
 const KEPT_VISITS: u64 = 2_000;
@@ -28,6 +30,8 @@ pub struct Soaked {
     /// How many items were sent, and how many owners came and went.
     pub sent: u64,
     pub visits: u64,
+    /// How many items were logged and synced.
+    pub synced: u64,
     pub seen: Seen,
 }
 
@@ -40,10 +44,10 @@ pub struct Seen {
 }
 
 /// Has clients work on a server for this time. Where `kept` is given, what each of them did is put there.
-pub fn soak<R: Threads + Wait + Clock + Sync>(
+pub fn soak<R: Threads + Wait + Clock + Sync, D: Disk + Drop + Send>(
     rt: &R,
     alloc: Global,
-    server: &Server<MemoryDisk>,
+    server: &Server<D>,
     kept: Option<&Mutex<Vec<Done>>>,
     time: Duration,
 ) -> Option<Soaked> {
@@ -52,15 +56,16 @@ pub fn soak<R: Threads + Wait + Clock + Sync>(
     Some(Soaked {
         sent: work.sent(),
         visits: work.visits(),
+        synced: work.synced(),
         seen,
     })
 }
 
 // Has the clients work while one watches.
-fn watch_all<R: Threads + Wait + Clock + Sync>(
+fn watch_all<R: Threads + Wait + Clock + Sync, D: Disk + Drop + Send>(
     rt: &R,
     alloc: Global,
-    work: &Work<'_>,
+    work: &Work<'_, D>,
     time: Duration,
 ) -> Option<Seen> {
     let mut watcher = work.server.connect(rt).ok()?;
@@ -77,10 +82,10 @@ fn watch_all<R: Threads + Wait + Clock + Sync>(
 }
 
 // Opens the logs, has the others work, and counts the rolls that it is told of and those that there were.
-fn attend<R: Threads + Wait + Clock + Sync>(
+fn attend<R: Threads + Wait + Clock + Sync, D: Disk + Drop + Send>(
     rt: &R,
     alloc: Global,
-    work: &Work<'_>,
+    work: &Work<'_, D>,
     watcher: &mut Client<'_>,
     time: Duration,
 ) -> Option<(u64, u64)> {
@@ -92,10 +97,10 @@ fn attend<R: Threads + Wait + Clock + Sync>(
 }
 
 // Starts a flusher and the others, and ends them. Returns how many rolls were told meanwhile.
-fn share<R: Threads + Wait + Clock + Sync>(
+fn share<R: Threads + Wait + Clock + Sync, D: Disk + Drop + Send>(
     rt: &R,
     alloc: Global,
-    work: &Work<'_>,
+    work: &Work<'_, D>,
     watcher: &mut Client<'_>,
     logs: &[Name; 2],
     time: Duration,
@@ -112,11 +117,11 @@ fn share<R: Threads + Wait + Clock + Sync>(
     })
 }
 
-// Has the senders and the visitors work while the watcher watches. Returns how many rolls it was told of, if all could work.
-fn crowd<R: Threads + Wait + Clock + Sync>(
+// Has the senders, those that sync and the visitors work while the watcher watches. Returns how many rolls it was told of, if all could work.
+fn crowd<R: Threads + Wait + Clock + Sync, D: Disk + Drop + Send>(
     rt: &R,
     alloc: Global,
-    work: &Work<'_>,
+    work: &Work<'_, D>,
     watcher: &mut Client<'_>,
     logs: &[Name; 2],
     time: Duration,
@@ -131,6 +136,11 @@ fn crowd<R: Threads + Wait + Clock + Sync>(
             let log = logs[number % 2];
             let sender = scope.spawn(move || work.note(send(rt, alloc, work, log, items)));
             work.note(sender.ok().map(|_| ()));
+        }
+        for number in 0..SYNCERS {
+            let log = logs[number % 2];
+            let syncer = scope.spawn(move || work.note(sync(rt, alloc, work, log, comings)));
+            work.note(syncer.ok().map(|_| ()));
         }
         for log in logs {
             let log = *log;

@@ -1,6 +1,6 @@
 // The client that counts the notices of rolls.
 use crate::clients::{is_done, log_args};
-use dl_disk::MemoryDisk;
+use dl_disk::Disk;
 use dl_server::{Client, Server};
 use dl_types::{Change, Extent, Name, Notice, Reply};
 use std::sync::Wait;
@@ -11,9 +11,9 @@ use std::time::{Clock, Duration};
 const PAUSE: u64 = 1;
 
 /// Opens the logs as an owner that is told of their rolls.
-pub fn open_all<R: Wait>(
+pub fn open_all<R: Wait, D: Disk + Drop>(
     rt: &R,
-    server: &Server<MemoryDisk>,
+    server: &Server<D>,
     client: &mut Client<'_>,
     logs: &[Name],
 ) -> Option<()> {
@@ -52,9 +52,9 @@ pub fn count(client: &mut Client<'_>) -> u64 {
 }
 
 /// How often the logs rolled since they were opened.
-pub fn rolls<R: Wait>(
+pub fn rolls<R: Wait, D: Disk + Drop>(
     rt: &R,
-    server: &Server<MemoryDisk>,
+    server: &Server<D>,
     client: &mut Client<'_>,
     logs: &[Name],
 ) -> Option<u64> {

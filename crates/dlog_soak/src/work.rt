@@ -1,24 +1,25 @@
 // What the clients of a soak share.
-use dl_disk::MemoryDisk;
+use dl_disk::Disk;
 use dl_server::{Done, Server};
 use std::sync::atomic::{AtomicBool, AtomicU64, Ordering};
 use std::sync::{Mutex, Wait};
 
 /// The server that is soaked, and what its clients have done so far.
 #[derive(Drop)]
-pub struct Work<'a> {
-    pub server: &'a Server<MemoryDisk>,
+pub struct Work<'a, D: Disk + Drop> {
+    pub server: &'a Server<D>,
     // What the clients did, if that is kept.
     kept: Option<&'a Mutex<Vec<Done>>>,
     has_ended: AtomicBool,
     has_failed: AtomicBool,
     sent: AtomicU64,
     visits: AtomicU64,
+    synced: AtomicU64,
 }
 
-impl<'a> Work<'a> {
+impl<'a, D: Disk + Drop> Work<'a, D> {
     /// Nothing was done yet. Where `kept` is given, what each client did is put there.
-    pub fn new(server: &'a Server<MemoryDisk>, kept: Option<&'a Mutex<Vec<Done>>>) -> Work<'a> {
+    pub fn new(server: &'a Server<D>, kept: Option<&'a Mutex<Vec<Done>>>) -> Work<'a, D> {
         Work {
             server,
             kept,
@@ -26,6 +27,7 @@ impl<'a> Work<'a> {
             has_failed: AtomicBool::new(false),
             sent: AtomicU64::new(0),
             visits: AtomicU64::new(0),
+            synced: AtomicU64::new(0),
         }
     }
 
@@ -74,6 +76,11 @@ impl<'a> Work<'a> {
         self.visits.fetch_add(1, Ordering::SeqCst);
     }
 
+    /// Counts an item that was logged and synced.
+    pub fn count_synced(&self) {
+        self.synced.fetch_add(1, Ordering::SeqCst);
+    }
+
     /// How many items were sent.
     pub fn sent(&self) -> u64 {
         self.sent.load(Ordering::SeqCst)
@@ -82,5 +89,10 @@ impl<'a> Work<'a> {
     /// How many owners came and went.
     pub fn visits(&self) -> u64 {
         self.visits.load(Ordering::SeqCst)
+    }
+
+    /// How many items were logged and synced.
+    pub fn synced(&self) -> u64 {
+        self.synced.load(Ordering::SeqCst)
     }
 }

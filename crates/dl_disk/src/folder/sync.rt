@@ -152,7 +152,7 @@ impl<R: Files<File = File> + AllocGlobal + Clone + Drop> Folder<R> {
         ensures err { OnErr result (IsClosed self.new.kept.files.entries file) }
     {
         let mut answer = self.sync_both(file);
-        if self.owed.is_lost(file) {
+        if answer.is_ok() && self.owed.is_lost(file) {
             answer = Err(ErrorKind::Other.into());
         }
         if answer.is_err() {

@@ -1,4 +1,4 @@
-use Rattle.std.proofs.Common.{◌≡◌, ◌++◌, ℕ, List, take}
+use Rattle.std.proofs.Common.{◌≡◌, ◌++◌, ℕ, List, None, take}
 use Rattle.dl_serve.specs.Arranged.{all_held, awaited}
 use Rattle.dl_serve.specs.Asked.{Chain}
 use Rattle.dl_serve.specs.Serve.{IsServed}
@@ -7,5 +7,5 @@ use Rattle.dl_serve.proofs.session.Session.sync_each.Given as goal
 
 abbrev pub invariant-loop-sync : goal.invariant-loop-sync
 invariant-loop-sync g l =
-    (frames : List ℕ) × Chain (IsServed {Z = g.row.A.Denot} g.D.Disk.state) (awaited l.client (all_held g.row.A.Denot (take l.sync-index l.held))) (stage_of l.fn.hub l.fn.self) (stage_of l.hub l.self) frames
+    (frames : List ℕ) × Chain (IsServed {Z = g.row.A.Denot} g.D.Disk.state) (awaited None (all_held g.row.A.Denot (take l.sync-index l.held))) (stage_of l.fn.hub l.fn.self) (stage_of l.hub l.self) frames
     × (l.self.frames.items ≡ l.fn.self.frames.items ++ frames)
