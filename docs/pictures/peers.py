@@ -129,8 +129,8 @@ def durable(picture, page, x, y):
     counts = ["1", "4", "16"]
     columns = [figures["writers"].index(it) for it in counts]
     notes = [
-        f"Another run, {when}: a sync takes {sync} ms.",
-        "Each writer waits until its item is on the device.",
+        f"Another run, {when}. Each writer waits for a",
+        f"sync of its item, which is made to take {sync} ms.",
         "Medians of three rounds; a busy machine; dlog",
         "built without a proof.",
     ]
