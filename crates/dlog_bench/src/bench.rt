@@ -51,7 +51,10 @@ impl<'a> Bench<'a> {
 impl Bench<'_> {
     /// Whether the measure with threads of this name is to be taken.
     pub fn wants(&self, name: &str) -> bool {
-        self.only.is_none_or(|only| only == name)
+        match self.only {
+            None => true,
+            Some(only) => only == name,
+        }
     }
 
     /// Prints one line.
