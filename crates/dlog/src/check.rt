@@ -3,12 +3,12 @@ ghost use Rattle.std.specs.Prelude.{◌≡◌};
 ghost use Rattle.std.specs.Process.{exit_status};
 ghost use Rattle.dlog.specs.Status.{health_status};
 
+use crate::by_log::{LinesByLog, base_of_both_kinds};
 use crate::files::{tell_losses, tell_odd, tell_strays};
 use crate::folder::{FolderOfLogs, folder_in, folder_word, logs_in, no_name, opened};
 use crate::kept::{compare_logs, lines_in, with_missing};
 use crate::{BUFFER_BYTES, MISUSED, UNCLEAN, UNREAD, tell};
 use clap::{Arg, ArgAction, ArgMatches, Command};
-use dl_digest::DigestLine;
 use dl_tool::{Health, LogFiles, ReportFault, Style, check_logs, list_logs, logs_named};
 use dl_types::{Base, FileName};
 use std::alloc::{AllocError, Global};
@@ -125,7 +125,7 @@ fn logs_to_compare(
     rt: &HostRuntime,
     options: &ArgMatches<'_>,
     disk: &mut FolderOfLogs,
-    lines: &[DigestLine],
+    lines: &LinesByLog,
 ) -> Result<Vec<LogFiles>, ExitCode> {
     let logs = logs_of_one_kind(rt, options, disk)?;
     if options.get_strs("names").is_some() {
@@ -212,22 +212,17 @@ pub fn logs_of_one_kind(
     disk: &mut FolderOfLogs,
 ) -> Result<Vec<LogFiles>, ExitCode> {
     let logs = logs_asked(rt, options, disk)?;
-    for files in &logs {
-        let LogFiles { base, kind } = *files;
-        if logs
-            .iter()
-            .any(|other| other.base == base && other.kind != kind)
-        {
-            return Err(tell(
-                rt,
-                format_args!(
-                    "{base}: there is a halt log and a wrap log, and a digest tells no kind: name other logs"
-                ),
-                MISUSED,
-            ));
-        }
+    match base_of_both_kinds(rt.alloc(), &logs) {
+        Ok(None) => Ok(logs),
+        Ok(Some(base)) => Err(tell(
+            rt,
+            format_args!(
+                "{base}: there is a halt log and a wrap log, and a digest tells no kind: name other logs"
+            ),
+            MISUSED,
+        )),
+        Err(_) => Err(tell(rt, ReportFault::OutOfMemory, UNREAD)),
     }
-    Ok(logs)
 }
 
 // The logs that the words name: those of these bases, or all of the folder.

@@ -2,6 +2,7 @@
 ghost use Rattle.std.specs.Prelude.{◌≡◌};
 ghost use Rattle.dlog.specs.Status.{verdict_status};
 
+use crate::by_log::LinesByLog;
 use crate::faults::{Failure, Place, tell_failure};
 use crate::folder::FolderOfLogs;
 use crate::noted::{Noted, Why};
@@ -11,7 +12,8 @@ use dl_disk::Reason;
 use dl_hub::Hub;
 use dl_pipe::PipeFault;
 use dl_tool::{LogFiles, ReportFault, Style};
-use dl_types::{Base, Kind, Name, Refusal};
+use dl_types::{Name, Refusal};
+use std::alloc::Global;
 use std::fs::File;
 use std::io;
 use std::io::BufReader;
@@ -21,7 +23,7 @@ use std::process::ExitCode;
 const CLEAN: u8 = 0;
 
 /// The digests in the file at this path.
-pub fn lines_in(rt: &HostRuntime, path: &str) -> Result<Vec<DigestLine>, ExitCode> {
+pub fn lines_in(rt: &HostRuntime, path: &str) -> Result<LinesByLog, ExitCode> {
     let file = match File::open(rt, path) {
         Ok(file) => file,
         Err(error) => return Err(tell(rt, format_args!("{path}: {error}"), UNREAD)),
@@ -30,10 +32,19 @@ pub fn lines_in(rt: &HostRuntime, path: &str) -> Result<Vec<DigestLine>, ExitCod
     let Ok(mut input) = input else {
         return Err(tell(rt, ListFault::OutOfMemory, UNREAD));
     };
-    match read_lines(rt.alloc(), &mut input) {
+    match lines_by_log(rt.alloc(), &mut input) {
         Ok(lines) => Ok(lines),
         Err(fault) => Err(tell_unlisted(rt, path, input.get_ref().why(), fault)),
     }
+}
+
+// The digests of a text, by their logs.
+fn lines_by_log(
+    alloc: Global,
+    input: &mut BufReader<Noted<File>>,
+) -> Result<LinesByLog, ListFault> {
+    let lines = read_lines(alloc, input)?;
+    Ok(LinesByLog::of(alloc, &lines)?)
 }
 
 // Says why the digests in the file at this path were not read.
@@ -49,19 +60,13 @@ fn tell_unlisted(rt: &HostRuntime, path: &str, why: Why, fault: ListFault) -> Ex
 pub fn with_missing(
     rt: &HostRuntime,
     found: Vec<LogFiles>,
-    lines: &[DigestLine],
+    lines: &LinesByLog,
 ) -> Result<Vec<LogFiles>, ExitCode> {
     let mut logs = found;
-    for line in lines {
-        let base = Base::of(line.log);
-        let kind = Kind::Halt;
-        if !logs.iter().any(|files| files.base == base)
-            && logs.push(LogFiles { base, kind }).is_err()
-        {
-            return Err(tell(rt, ReportFault::OutOfMemory, UNREAD));
-        }
+    match lines.add_missing(&mut logs) {
+        Ok(()) => Ok(logs),
+        Err(_) => Err(tell(rt, ReportFault::OutOfMemory, UNREAD)),
     }
-    Ok(logs)
 }
 
 /// Holds logs of a folder against these digests. What does not hold is told, and the status says so.
@@ -70,7 +75,7 @@ pub fn compare_logs(
     folder: &str,
     disk: FolderOfLogs,
     logs: &[LogFiles],
-    lines: &[DigestLine],
+    lines: &LinesByLog,
     style: Style,
 ) -> u8 {
     match Hub::new(rt.alloc(), disk, BLOCKS) {
@@ -88,13 +93,13 @@ fn compare_in(
     folder: &str,
     hub: &mut Hub<FolderOfLogs>,
     logs: &[LogFiles],
-    lines: &[DigestLine],
+    lines: &LinesByLog,
     style: Style,
 ) -> u8 {
     let mut status = CLEAN;
     for files in logs {
         if let Some(log) = Name::parse(files.base.as_bytes()) {
-            let done = compare_log(rt.alloc(), hub, log, files.kind, lines);
+            let done = compare_log(rt.alloc(), hub, log, files.kind, lines.of_log(log));
             let place = Place {
                 folder,
                 log,

@@ -9,6 +9,7 @@ mod append;
 mod appended;
 mod begin;
 mod beside;
+mod by_log;
 mod check;
 mod closed;
 mod digest;
