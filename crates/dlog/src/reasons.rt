@@ -7,8 +7,15 @@ use std::io::ErrorKind;
 // The system's number of a device that failed.
 const INPUT_OUTPUT: i32 = 5;
 
+// Its number of a file or a folder that has not its name any more.
+const STALE: i32 = 116;
+
 // Its numbers where too many files are open, in all programs or in this one.
 const TOO_MANY_OPEN: [i32; 2] = [23, 24];
+
+// What to do about a file that is not found under its name.
+const MOVED: &str =
+    "another program has moved, removed or replaced it or its folder: put it back under its name";
 
 /// What a call of the device was to do with a file.
 #[derive(Clone, Copy)]
@@ -95,7 +102,8 @@ fn remedy_for_number(number: i32) -> &'static str {
             "mount its file system to be written, and look at the system's journal if it was",
         ErrorKind::PermissionDenied =>
             "give dlog the right to read and to write the file and its folder",
-        ErrorKind::NotFound => "put it or its folder back, which another program has moved away",
+        ErrorKind::NotFound => MOVED,
+        _ if number == STALE => MOVED,
         _ if TOO_MANY_OPEN.contains(&number) => "raise the limit on open files (ulimit -n)",
         _ if number == INPUT_OUTPUT =>
             "look at the system's journal for its device, and copy the folder",
