@@ -1,17 +1,36 @@
 -- Which files of a folder may have bytes that are not on the device, and which of its names may not be.
-use Rattle.std.specs.Prelude.{◌≡◌, ◌&&◌, ◌||◌, Bool, [], false, not, IsTrue}
-use Rattle.indexmap.specs.IndexSet.{contains}
+use Rattle.std.specs.Prelude.{◌≡◌, ◌&&◌, ◌||◌, ℕ, Bool, Option, Some, None, [], false, not, IsTrue}
+use Rattle.indexmap.specs.IndexMap.{get}
+use Rattle.indexmap.specs.IndexSet.{IndexSet, contains, index_set_len}
 use Rattle.dl_types.specs.Name.{same_base}
 use Rattle.dl_types.specs.declared.file.FileName.{FileName}
 use Rattle.dl_types.specs.contracts.file.FileNamePartialEq.TheImpl.{ghosts as file_ghosts}
 use Rattle.dl_types.specs.declared.name.Base.{Base}
 use Rattle.dl_types.specs.contracts.name.BasePartialEq.TheImpl.{ghosts as base_ghosts}
+use Rattle.dl_disk.specs.declared.folder.by_base.FilesByBase.{FilesByBase}
 use Rattle.dl_disk.specs.declared.folder.owed.Owed.{Owed}
 use Rattle.dl_disk.specs.declared.folder.owed_names.OwedNames.{OwedNames}
 
+module _ {S : Type 0} where
+  -- a file is among those that are known under its base
+  abbrev pub is_known : Option (IndexSet FileName S) → FileName → Bool
+  is_known (Some files) file = contains file_ghosts.eq files file
+  is_known None file = false
+
+  -- how many files are known under a base
+  abbrev pub how_many : Option (IndexSet FileName S) → ℕ
+  how_many (Some files) = index_set_len files
+  how_many None = 0
+
+abbrev pub has_file : FilesByBase → FileName → Bool
+has_file files file = is_known (get base_ghosts.eq files.bases file.base) file
+
+abbrev pub count_under : FilesByBase → Base → ℕ
+count_under files base = how_many (get base_ghosts.eq files.bases base)
+
 -- a file was written since it was last synced
 abbrev pub owes : Owed → FileName → Bool
-owes owed file = contains file_ghosts.eq owed.files file
+owes owed file = has_file owed.files file
 
 -- a sync of a file is running without the disk
 abbrev pub is_running : Owed → FileName → Bool

@@ -7,6 +7,7 @@ ghost use Rattle.dl_disk.specs.Folder.{IsClosed, IsKept, known_length};
 ghost use Rattle.dl_disk.specs.declared.syncs.Syncs.TheVariants.{AtRolls, OnlyWhenAsked};
 ghost use Rattle.dl_disk.specs.Owed.{owes};
 
+use super::identity::Identity;
 use super::kept::Kept;
 use super::opened::{Access, Opened, length_at};
 use super::owed::Owed;
@@ -30,6 +31,7 @@ pub(crate) struct Folder<R: Files<File = File> + AllocGlobal + Clone + Drop> {
     pub(crate) path: PathBuf,
     // The folder itself, open and locked.
     pub(crate) own: File,
+    pub(crate) identity: Identity,
     pub(crate) kept: Kept,
     pub(crate) syncs: Syncs,
     pub(crate) owed: Owed,
@@ -48,6 +50,7 @@ impl<R: Files<File = File> + AllocGlobal + Clone + Drop> Folder<R> {
         }
         let own = File::open(&rt, path.as_path())?;
         own.try_lock()?;
+        let identity = Identity::of(&own.metadata()?);
         let kept = Kept::new(rt.alloc())?;
         let owed = Owed::new(rt.alloc());
         let names = OwedNames::new(rt.alloc());
@@ -55,6 +58,7 @@ impl<R: Files<File = File> + AllocGlobal + Clone + Drop> Folder<R> {
             rt,
             path,
             own,
+            identity,
             kept,
             syncs,
             owed,
@@ -62,10 +66,24 @@ impl<R: Files<File = File> + AllocGlobal + Clone + Drop> Folder<R> {
         })
     }
 
-    /// The path of a file.
+    // Refuses a path that does not lead to the open folder, which was moved, or whose path has changed.
+    fn check_path(&self) -> io::Result<()> {
+        let found = fs::metadata(&self.rt, self.path.as_path());
+        self.identity.expect(found)
+    }
+
+    /// Refuses a kept file that has not its name any more, since another program has moved, removed or replaced it.
+    pub(crate) fn check_kept(&self, file: FileName) -> io::Result<()> {
+        let path = self.path_of(file)?;
+        let kept = self.kept.identity(file)?;
+        kept.expect(fs::symlink_metadata(&self.rt, path.as_path()))
+    }
+
+    /// The path of a file. It is refused as stale if the folder's path does not lead to the open folder any more.
     pub(crate) fn path_of(&self, file: FileName) -> io::Result<PathBuf>
         ensures { IfOk result (λ path. path_buf_bytes path ≡ path_join (path_buf_bytes self.now.path) (printed_file file)) }
     {
+        self.check_path()?;
         let name = file.to_string(self.rt.alloc())?;
         Ok(self.path.join(self.rt.alloc(), name.as_str())?)
     }

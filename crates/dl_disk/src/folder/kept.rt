@@ -3,6 +3,7 @@ ghost use Rattle.std.specs.Prelude.{◌≡◌, ◌≤◌, ◌<◌, ◌+◌, ℕ,
 ghost use Rattle.dl_types.specs.declared.file.FileName.{FileName};
 ghost use Rattle.dl_disk.specs.Folder.{IsClosed, IsKept, kept_as, known_length};
 
+use super::identity::Identity;
 use super::opened::{Access, Opened};
 use dl_types::FileName;
 use lru::LruCache;
@@ -143,6 +144,14 @@ impl Kept {
             None => Err(ErrorKind::NotFound.into()),
         };
         self.close_after(name, answer)
+    }
+
+    /// Which file is kept under this name.
+    pub(crate) fn identity(&self, name: FileName) -> io::Result<Identity> {
+        match self.files.peek(&name) {
+            Some(opened) => Ok(Identity::of(&opened.file.metadata()?)),
+            None => Err(ErrorKind::NotFound.into()),
+        }
     }
 
     /// A second handle of a kept file.

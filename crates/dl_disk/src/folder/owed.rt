@@ -1,24 +1,22 @@
 // Which files may have bytes that are not on the device.
-ghost use Rattle.std.specs.Prelude.{◌≡◌, ◌≢◌, ◌≤◌, ◌<◌, [], false, length, position, IsTrue, IfSome, IfNone, OnOk, OnErr};
+ghost use Rattle.std.specs.Prelude.{◌≡◌, ◌≢◌, ◌≤◌, ◌<◌, [], false, IsTrue, IfSome, IfNone, OnOk, OnErr};
 ghost use Rattle.indexmap.specs.IndexSet.{spare};
 ghost use Rattle.dl_types.specs.declared.file.FileName.{FileName};
-ghost use Rattle.dl_disk.specs.Owed.{IsSettledBeside, KeepsLost, KeepsSettled, is_beside, is_clean, is_lost, is_running, is_unchanged, owes};
+ghost use Rattle.dl_disk.specs.Owed.{IsSettledBeside, KeepsLost, KeepsSettled, count_under, is_beside, is_clean, is_lost, is_running, is_unchanged, owes};
 
+use super::by_base::{FileSet, FilesByBase};
 use dl_types::FileName;
 use indexmap::IndexSet;
 use std::alloc::{AllocError, Global};
-use std::hash::{BuildHasherDefault, FoldHasher};
 
 // How many files are known to be unchanged at most. A name takes some 90 bytes.
 const UNCHANGED_FILES: usize = 65_536;
-
-type FileSet = IndexSet<FileName, BuildHasherDefault<FoldHasher>, Global>;
 
 /// The files whose bytes may not be on the device, as far as one disk wrote and synced them.
 #[derive(Drop)]
 pub(crate) struct Owed {
     // Those that were written since they were last synced.
-    pub(crate) files: FileSet,
+    pub(crate) files: FilesByBase,
     // Those at which a sync failed since they were put, and those that are synced without the disk.
     pub(crate) doubtful: FileSet,
     // Of these, those whose sync without the disk has not ended.
@@ -30,11 +28,11 @@ pub(crate) struct Owed {
 impl Owed {
     /// Nothing was written yet.
     pub(crate) fn new(alloc: Global) -> Owed
-        ensures files { result.files.keys ≡ [] }
+        ensures files { (file : FileName) → owes result file ≡ false }
         ensures doubtful { result.doubtful.keys ≡ [] }
     {
         Owed {
-            files: IndexSet::new(alloc),
+            files: FilesByBase::new(alloc),
             doubtful: IndexSet::new(alloc),
             running: IndexSet::new(alloc),
             unchanged: IndexSet::new(alloc),
@@ -46,7 +44,7 @@ impl Owed {
         ensures owes { OnOk result (IsTrue (owes self.new file)) }
         ensures changed { is_unchanged self.new file ≡ false }
         ensures rest { self.new ≡ record self.old { files = self.new.files; unchanged = self.new.unchanged } }
-        ensures err { OnErr result (self.new.files.keys ≡ self.old.files.keys) }
+        ensures err { OnErr result ((other : FileName) → owes self.new other ≡ owes self.old other) }
     {
         let _ = self.unchanged.swap_remove(&file);
         self.files.insert(file)?;
@@ -58,28 +56,24 @@ impl Owed {
         ensures some { IfSome result (λ other. IsTrue (owes self.now other) × IsTrue (is_beside file other)) }
         ensures none { IfNone result (IsSettledBeside self.now file) }
     {
-        let files = self.files.as_slice();
-        match position_beside(files, file) {
-            Some(at) => Some(files[at]),
-            None => None,
-        }
+        self.files.beside(file)
     }
 
     /// Whether a file owes bytes.
     pub(crate) fn owes(&self, file: FileName) -> bool
         ensures { result ≡ owes self.now file }
     {
-        self.files.contains(&file)
+        self.files.contains(file)
     }
 
     /// Notes that the bytes of a file are on the device.
     pub(crate) fn settle(&mut self, file: FileName)
         ensures settled { owes self.new file ≡ false }
-        ensures fewer { IsTrue (owes self.old file) → length self.new.files.keys < length self.old.files.keys }
+        ensures fewer { IsTrue (owes self.old file) → count_under self.new.files file.base < count_under self.old.files file.base }
         ensures others { KeepsSettled self.old self.new }
         ensures rest { self.new ≡ record self.old { files = self.new.files } }
     {
-        let _ = self.files.swap_remove(&file);
+        self.files.remove(file);
     }
 
     /// Notes that all bytes of a file are on the device, so that its next sync needs no device. Without memory for that the next
@@ -98,7 +92,7 @@ impl Owed {
         ensures { result ≡ is_clean self.now file }
     {
         self.unchanged.contains(&file)
-            && !self.files.contains(&file)
+            && !self.files.contains(file)
             && !self.doubtful.contains(&file)
     }
 
@@ -195,19 +189,4 @@ impl Owed {
             self.settle(file);
         }
     }
-}
-
-// The place of the first of these files that has the base of another.
-fn position_beside(files: &[FileName], file: FileName) -> Option<usize>
-    ensures value { result ≡ position (is_beside file) files.now }
-    ensures within { IfSome result (λ at. at < length files.now) }
-{
-    files.iter().position(|other| is_beside(file, *other))
-}
-
-// Whether another file has the base of a file.
-fn is_beside(file: FileName, other: FileName) -> bool
-    ensures { result ≡ is_beside file other }
-{
-    other.base == file.base && other != file
 }

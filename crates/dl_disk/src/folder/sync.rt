@@ -1,10 +1,10 @@
 // The syncs of a folder, and of its files.
-ghost use Rattle.std.specs.Prelude.{◌≡◌, ◌≤◌, ◌<◌, false, length, IsTrue, IsErr, IfSome, OnOk, OnErr};
+ghost use Rattle.std.specs.Prelude.{◌≡◌, ◌≤◌, ◌<◌, false, IsTrue, IsErr, IfSome, OnOk, OnErr};
 ghost use Rattle.indexmap.specs.IndexSet.{spare};
 ghost use Rattle.dl_types.specs.declared.file.FileName.{FileName};
 ghost use Rattle.dl_disk.specs.declared.syncs.Syncs.TheVariants.{AtRolls};
 ghost use Rattle.dl_disk.specs.Folder.{IsClosed, known_length};
-ghost use Rattle.dl_disk.specs.Owed.{IsSettledBeside, KeepsLost, KeepsSettled, OwesNoName, is_lost, is_running, is_unchanged, owes};
+ghost use Rattle.dl_disk.specs.Owed.{IsSettledBeside, KeepsLost, KeepsSettled, OwesNoName, count_under, is_lost, is_running, is_unchanged, owes};
 
 use super::calls::{Folder, if_there};
 use super::opened::Access;
@@ -21,7 +21,7 @@ impl<R: Files<File = File> + AllocGlobal + Clone + Drop> Folder<R> {
     fn sync_kept(&mut self, file: FileName) -> io::Result<()>
         requires { 0 < spare self.old.owed.doubtful }
         ensures ok { OnOk result (owes self.new.owed file ≡ false) }
-        ensures fewer { OnOk result (IsTrue (owes self.old.owed file) → length self.new.owed.files.keys < length self.old.owed.files.keys) }
+        ensures fewer { OnOk result (IsTrue (owes self.old.owed file) → count_under self.new.owed.files file.base < count_under self.old.owed.files file.base) }
         ensures others { KeepsSettled self.old.owed self.new.owed }
         ensures lost { KeepsLost self.old.owed self.new.owed }
         ensures err { OnErr result (IsTrue (is_lost self.new.owed file) × IsClosed self.new.kept.files.entries file) }
@@ -55,7 +55,7 @@ impl<R: Files<File = File> + AllocGlobal + Clone + Drop> Folder<R> {
     fn settle_bytes(&mut self, file: FileName) -> io::Result<()>
         ensures ok { OnOk result (owes self.new.owed file ≡ false) }
         ensures others { KeepsSettled self.old.owed self.new.owed }
-        ensures fewer { OnOk result (IsTrue (owes self.old.owed file) → length self.new.owed.files.keys < length self.old.owed.files.keys) }
+        ensures fewer { OnOk result (IsTrue (owes self.old.owed file) → count_under self.new.owed.files file.base < count_under self.old.owed.files file.base) }
         ensures lost { KeepsLost self.old.owed self.new.owed }
         ensures rest { self.new ≡ record self.old { kept = self.new.kept; owed = self.new.owed } }
     {
@@ -137,6 +137,7 @@ impl<R: Files<File = File> + AllocGlobal + Clone + Drop> Folder<R> {
         if !self.owed.is_clean(file) {
             self.owed.ready_loss()?;
             self.keep_open(file, Access::Read)?;
+            self.check_kept(file)?;
             self.sync_kept(file)?;
         }
         self.sync_names()
@@ -144,7 +145,7 @@ impl<R: Files<File = File> + AllocGlobal + Clone + Drop> Folder<R> {
 
     /// Makes what was written to a file durable, and the names of the folder if they are owed. A file that is known to owe nothing
     /// is not asked for. A file at which a sync failed before is synced, and is a fault until it is put anew, since bytes of it may
-    /// be gone.
+    /// be gone. So is one that has not its name any more.
     pub(crate) fn sync(&mut self, file: FileName) -> io::Result<()>
         ensures bytes { OnOk result (owes self.new.owed file ≡ false) }
         ensures names { OnOk result (OwesNoName self.new.names) }
@@ -170,6 +171,7 @@ impl<R: Files<File = File> + AllocGlobal + Clone + Drop> Folder<R> {
         ensures lost { KeepsLost self.old.owed self.new.owed }
     {
         self.keep_open(file, Access::Read)?;
+        self.check_kept(file)?;
         let handle = self.kept.handle(file)?;
         self.owed.begin(file)?;
         Ok(handle)
