@@ -50,8 +50,8 @@ pub struct LastFile {
     pub generation: Option<u64>,
 }
 
-// The last file of a log. None if its index is not there, or is none.
-fn last_file<D: Disk, A: Allocator + Copy>(
+/// The last file of a log, whether it is there or not. None if the log's index is not there, or is none. Nothing is changed.
+pub fn last_file<D: Disk, A: Allocator + Copy>(
     alloc: A,
     disk: &mut D,
     log: LogFiles,

@@ -31,7 +31,7 @@ mod zeros;
 pub use about::describe_log;
 pub use begin::files_in_way;
 pub use check::check_log;
-pub use closed::{Closed, find_closed};
+pub use closed::{Closed, LastFile, find_closed, last_file};
 pub use copy::{CopyFault, copy_bad};
 pub use finding::{Amount, CheckFault, Finding};
 pub use folder::{find_logs, logs_named};

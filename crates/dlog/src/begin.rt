@@ -2,7 +2,7 @@
 use crate::faults::Place;
 use crate::folder::{FolderOfLogs, tell_unlisted};
 use crate::{FAILED, UNREAD, tell};
-use dl_tool::{LogFiles, files_in_way, find_strays_of, is_newer};
+use dl_tool::{LogFiles, files_in_way, find_strays_of, is_newer, last_file};
 use dl_types::{Base, FileName, Kind, Part};
 use std::process::ExitCode;
 
@@ -24,45 +24,58 @@ pub fn may_open(
         Err(fault) => return Err(tell_unlisted(rt, place.folder, fault)),
     };
     match files.as_slice() {
-        [] => none_is_newer(rt, disk, place, log),
+        [] => none_is_newer(rt, disk, place, log, "logged"),
         [first, ..] => Err(tell_in_way(rt, place, *first, &files)),
     }
 }
 
-// Whether no file is newer than the index of a wrap log. Where one is, the index may be an older one, and its log would write over
-// that file. An index that cannot be read is told by the open, with its reason.
-fn none_is_newer(
+/// Whether no file is newer than the index of a wrap log. Where one is, the index may be an older one, and its log would write over
+/// that file: an `Err` is the status after a message that nothing is done, as logged. An index that cannot be read is left to the
+/// open, which has its reason.
+pub fn none_is_newer(
     rt: &HostRuntime,
     disk: &mut FolderOfLogs,
     place: Place<'_>,
     log: LogFiles,
+    done: &str,
 ) -> Result<(), ExitCode> {
     let Kind::Wrap = log.kind else {
         return Ok(());
     };
+    match last_file(rt.alloc(), disk, log) {
+        Ok(Some(last)) => is_no_newer(rt, disk, place, last.file, done)?,
+        Ok(None) => {}
+        Err(fault) => return Err(tell(rt, fault, UNREAD)),
+    }
     let Ok(strays) = find_strays_of(rt.alloc(), disk, log.base) else {
         return Ok(());
     };
     for file in &strays {
-        match is_newer(rt.alloc(), disk, *file) {
-            Ok(false) => {}
-            Ok(true) => return Err(tell_newer(rt, place, *file)),
-            Err(fault) => return Err(tell(rt, fault, UNREAD)),
-        }
+        is_no_newer(rt, disk, place, *file, done)?;
     }
     Ok(())
 }
 
-// Says that a file is newer than the index of its log.
-fn tell_newer(rt: &HostRuntime, place: Place<'_>, file: FileName) -> ExitCode {
+// Whether a file is not newer than the index of its log.
+fn is_no_newer(
+    rt: &HostRuntime,
+    disk: &mut FolderOfLogs,
+    place: Place<'_>,
+    file: FileName,
+    done: &str,
+) -> Result<(), ExitCode> {
     let Place { folder, log, .. } = place;
-    tell(
-        rt,
-        format_args!(
-            "{log}: {folder}/{file} is newer than the files that the index {log}.idx names, and nothing is logged over it: the index may be an older one\nput the right index back, or move the file away: it can be read as a halt log under another name"
-        ),
-        FAILED,
-    )
+    match is_newer(rt.alloc(), disk, file) {
+        Ok(false) => Ok(()),
+        Ok(true) => Err(tell(
+            rt,
+            format_args!(
+                "{log}: {folder}/{file} is newer than the files that the index {log}.idx names, and nothing is {done} over it: the index may be an older one\nput the right index back, or move the file away: it can be read as a halt log under another name"
+            ),
+            FAILED,
+        )),
+        Err(fault) => Err(tell(rt, fault, UNREAD)),
+    }
 }
 
 // Says which files are in the way of a log, by the first of them.
