@@ -205,7 +205,7 @@ fn list_folder(
     Ok(end(rt, listed, written))
 }
 
-/// The logs that the words name, of which no two have the same name: a digest tells no kind.
+/// The logs that the words name. Two logs of the same name are refused, since a digest does not state the kind.
 pub fn logs_of_one_kind(
     rt: &HostRuntime,
     options: &ArgMatches<'_>,

@@ -1,4 +1,4 @@
-// What is told of a fault of the work on a log.
+// Messages about a fault of the work on a log.
 ghost use Rattle.std.specs.Prelude.{◌≡◌};
 ghost use Rattle.std.specs.Process.{exit_status};
 
@@ -96,7 +96,7 @@ fn advise_on_device(rt: &HostRuntime, place: Place<'_>, file: FileName, reason: 
     }
 }
 
-/// The same for a refusal.
+/// Says what to do about a refusal, unless the refusal says it all.
 pub fn advise_on_refusal(rt: &HostRuntime, place: Place<'_>, refusal: Refusal) {
     let Place { folder, log, .. } = place;
     match refusal {
@@ -178,7 +178,8 @@ fn file_of(log: Name, number: u32) -> FileName {
     }
 }
 
-/// Says why the system refuses a file of a folder. It is asked again; if it tells nothing then, what there is to look at is said.
+/// Says why the system refuses a file of a folder. Asks the system again. If that gives no reason, says what to look
+/// at.
 pub fn advise_on_file(rt: &HostRuntime, folder: &str, file: FileName, writes: bool) {
     match look_at(rt, folder, file, writes) {
         Ok(Look::Plain) => say(

@@ -1,11 +1,11 @@
-// What is told of a log that is followed.
+// Messages about a log that is followed.
 use crate::faults::{Place, advise_on_file, say};
 use crate::{FAILED, UNREAD, tell};
 use dl_tail::{Position, TailFault};
 use dl_types::Name;
 use std::process::ExitCode;
 
-/// Tells of bytes that are no item's.
+/// Reports bytes that are no item's.
 pub fn tell_torn(rt: &HostRuntime, log: Name, end: Position) {
     let Position {
         generation,
@@ -17,7 +17,7 @@ pub fn tell_torn(rt: &HostRuntime, log: Name, end: Position) {
     );
 }
 
-/// Tells that files were passed over.
+/// Reports that files were passed over.
 pub fn tell_passed(rt: &HostRuntime, log: Name, next: Position, emptied: bool) {
     let generation = next.generation;
     let what = if emptied {
@@ -30,7 +30,7 @@ pub fn tell_passed(rt: &HostRuntime, log: Name, next: Position, emptied: bool) {
     );
 }
 
-/// Tells that the log is not there any more.
+/// Reports that the log is not there any more.
 pub fn tell_gone(rt: &HostRuntime, log: Name) {
     let _ = eprintln!(rt; "dlog: {log}: it is not there any more, and is waited for");
 }
