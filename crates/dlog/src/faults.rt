@@ -102,7 +102,7 @@ pub fn advise_on_refusal(rt: &HostRuntime, place: Place<'_>, refusal: Refusal) {
     match refusal {
         Refusal::NoFile => say(
             rt,
-            format_args!("dlog list {folder} tells which logs there are"),
+            format_args!("dlog list {folder} shows which logs there are"),
         ),
         Refusal::StaleContinuation => say(
             rt,
@@ -134,7 +134,7 @@ fn advise_on_files(rt: &HostRuntime, place: Place<'_>, refusal: Refusal) {
         Refusal::InvalidIndexFile => say(
             rt,
             format_args!(
-                "{folder}/{log}.idx is damaged, or names a file that is missing or has given way: put back what was there, or move the files of {log} away"
+                "{folder}/{log}.idx is damaged, or names a file that is missing or was replaced: put back what was there, or move the files of {log} away"
             ),
         ),
         Refusal::CorruptFile(number) => {

@@ -23,16 +23,16 @@ pub fn tell_passed(rt: &HostRuntime, log: Name, next: Position, emptied: bool) {
     let what = if emptied {
         "it was emptied or moved"
     } else {
-        "files gave way before they were read"
+        "files were replaced before they were read"
     };
     let _ = eprintln!(rt;
-        "dlog: {log}: {what}: it goes on with the file of generation {generation}, and items may be missing before it"
+        "dlog: {log}: {what}: tail goes on with the file of generation {generation}, and items before it may be missing"
     );
 }
 
 /// Reports that the log is not there any more.
 pub fn tell_gone(rt: &HostRuntime, log: Name) {
-    let _ = eprintln!(rt; "dlog: {log}: it is not there any more, and is waited for");
+    let _ = eprintln!(rt; "dlog: {log}: the log is not there any more: tail waits for it");
 }
 
 /// Says that a file of the log is missing before its last items.
@@ -47,7 +47,7 @@ pub fn tell_missing(rt: &HostRuntime, place: Place<'_>) -> ExitCode {
     );
     say(
         rt,
-        format_args!("dlog check {folder} {log} tells how it stands"),
+        format_args!("dlog check {folder} {log} shows its state"),
     );
     told
 }
