@@ -147,9 +147,9 @@ class Judge:
         told = [f"{NAME}: clean, nothing is to be repaired"] if not bad and not count else []
         rest = f"{NAME}: nothing is to be repaired:"
         if bad:
-            told.append(f"{rest} {bad} bytes of older files are bad, and stay until their files give way")
+            told.append(f"{rest} {bad} bytes of older files are bad, and stay until their files are replaced")
         if count:
-            told.append(f"{rest} {count} older files count another number of items than they have, and stay until they give way")
+            told.append(f"{rest} {count} older files count another number of items than they have, and stay until they are replaced")
         if (self.done.status, out, self.done.told) != (0, told, []):
             return "what needs no repair is told otherwise"
         if not self.done.is_passed_over():

@@ -9,7 +9,7 @@ use crate::places::Places;
 use dl_types::{Act, Call, ClientId, Fail, Name, Place};
 use std::alloc::Allocator;
 
-/// The call that a client's words ask for, or why it is refused before it is one.
+/// Makes the call that a client's words ask for, or returns why no call can be made of them.
 pub fn call_of<A: Allocator + Copy>(
     alloc: A,
     client: ClientId,

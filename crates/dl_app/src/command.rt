@@ -34,9 +34,9 @@ pub enum Request<'a> {
         kind: Kind,
         settings: Settings<'a>,
     },
-    /// The words after the name, each of which writes an item.
+    /// The words after the name. Each of them writes an item.
     Log(Words<'a>),
-    /// The words after the name, each of which writes an item that is sent.
+    /// The words after the name. Each of them writes an item that is sent.
     Alog(Words<'a>),
     Chunk {
         from: Start,

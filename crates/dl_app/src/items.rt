@@ -77,7 +77,7 @@ fn item_length(written: Written<'_>) -> u64
     }
 }
 
-/// Makes the item that a word writes. One that is too long takes no memory.
+/// Makes the item that a word writes. An item that is too long is refused before memory is allocated.
 pub fn item_of<A: Allocator>(alloc: A, word: &[u8]) -> Result<Item<A>, Fail>
     ensures same { IfOk result (λ item. item ≡ item_bytes word.now) }
     ensures refused { ITEM_LIMIT < length (item_bytes word.now) → result ≡ Err (Fail.Refused (refusal.BadArg argument.Item)) }
@@ -140,7 +140,7 @@ fn failure_of(words: Words<'_>) -> Fail
     Fail::OutOfMemory
 }
 
-/// Makes the items of one call. Those of a call that is refused are dropped.
+/// Makes the items of one call. If one of them is refused, the others are dropped.
 pub fn items_of<A: Allocator + Copy>(alloc: A, words: Words<'_>) -> Result<Items<A>, Fail>
     ensures same { IfOk result (λ items. items ≡ map item_bytes (words_left words.entry)) }
     ensures refused { IfSome (refusal_of (words_left words.entry)) (λ refusal. result ≡ Err (Fail.Refused refusal)) }

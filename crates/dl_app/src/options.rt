@@ -111,7 +111,7 @@ impl<'a> Settings<'a> {
         Some(())
     }
 
-    /// The arguments of an open of a log of this kind, or why the head item is not made.
+    /// Makes the arguments of an open of a log of this kind, or returns why the head item cannot be made.
     pub fn args<A: Allocator>(self, alloc: A, kind: Kind) -> Result<OpenArgs<A>, Fail>
         ensures args { IfOk result (λ args. args ≡ args_of self.entry (plain_args kind)) }
         ensures refused { IfSome (head_refusal self.entry.head) (λ refusal. result ≡ Err (Fail.Refused refusal)) }

@@ -43,7 +43,8 @@ impl<A: Allocator + Copy> Places<A> {
         }
     }
 
-    /// Keeps the place that a reply gave to a client, if it gave one: that after the items of a chunk, or that of a step.
+    /// Keeps the place that a reply gave to a client, if any: the place after the items of a chunk, or the place of a
+    /// step.
     pub fn keep_after(
         &mut self,
         client: ClientId,

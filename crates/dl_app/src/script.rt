@@ -37,8 +37,8 @@ const SHOWN_BYTES: usize = 4_096;
 
 /// Runs a script on a hub and writes its answers, up to its end or the first fault.
 ///
-/// What was answered before a fault is written. If that fails, the fault is the write's. After a write that failed, and
-/// if memory was refused, the contract leaves open which lines were run.
+/// The answers to the lines before a fault are written. If that fails, the write's fault is returned. After a failed
+/// write, and when out of memory, the contract does not say which lines were run.
 pub fn run_script<R: BufRead, W: Write, D: Disk + Drop, A: Allocator + Copy>(
     alloc: A,
     input: &mut R,
@@ -69,7 +69,7 @@ pub struct Session<A: Allocator + Copy> {
 }
 
 impl<A: Allocator + Copy> Session<A> {
-    /// A script of which no line was run. It takes no memory.
+    /// A script before its first line. It takes no memory.
     pub fn new(alloc: A) -> Session<A>
         ensures { (c : ClientId) (l : Name) → next_of result c l ≡ Start }
     {
@@ -109,8 +109,10 @@ impl<A: Allocator + Copy> Session<A> {
         }
     }
 
-    /// Runs the line of this number, which has no line feed, on a hub, and writes its answer. It is `BadLine` of this number
-    /// if the line has no form; then nothing was done. A line whose answer was refused memory or not written may have been run.
+    /// Runs one line, without its line feed, on a hub and writes its answer.
+    ///
+    /// If the line has no form of the language, it does nothing and returns `BadLine` with this number. If there was
+    /// no memory for the answer, or the answer was not written, the line may have been run.
     pub fn run_line<W: Write, D: Disk + Drop>(
         &mut self,
         number: u64,

@@ -77,8 +77,8 @@ fn called_log(step: Step<'_>) -> Option<&str> {
     }
 }
 
-/// The logs of a hub that the theorem speaks of, each once: no call on another log names one of their bases, and the device
-/// does not fail at one.
+/// The logs of a hub that the theorem is about, each once: no call on another log names one of their bases, and the
+/// device does not fail at one.
 pub fn private_logs<'a>(alloc: Global, life: &[Step<'a>]) -> Result<Vec<&'a str>, AllocError> {
     let mut logs: Vec<&'a str> = Vec::new(alloc);
     for step in life {
@@ -109,8 +109,8 @@ fn disturbs(step: Step<'_>, own: NamedBase<'_>) -> bool {
     named_base(step).is_some_and(|other| other.log != own.log && other.base == own.base)
 }
 
-/// The steps of a hub with a log's own lines alone: the calls that name it, and the exits of clients that called on it
-/// before. Their answers have the log's notices alone.
+/// The steps of a hub that concern one log: the calls that name it, and the exits of clients that called on it
+/// before. Their answers have the notices of this log only.
 pub fn alone<'a>(
     alloc: Global,
     life: &[Step<'a>],

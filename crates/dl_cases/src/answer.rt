@@ -6,7 +6,7 @@ use std::alloc::{AllocError, Global};
 // How many copies a piece may ask for: the digits of the longest item.
 const COPIES_LIMIT: u64 = 2_097_152;
 
-/// The text that an answer stands for: `K*TEXT` is K copies of TEXT, and `+` joins pieces into one word.
+/// Expands an answer: `K*TEXT` means K copies of TEXT, and `+` joins pieces into one word.
 pub fn expanded(alloc: Global, answer: &str) -> Result<String, AllocError> {
     let mut text = String::new(alloc);
     for (at, word) in answer.split(' ').enumerate() {
@@ -35,7 +35,7 @@ pub fn heard_of(alloc: Global, answer: &str, log: &str) -> Result<String, AllocE
     Ok(text)
 }
 
-// Whether this is a notice of this log: its client stands before the log, after a space.
+// Whether this is a notice of this log. A notice names its client and, after a space, its log.
 fn is_notice_of(notice: &str, log: &str) -> bool {
     notice
         .split(' ')

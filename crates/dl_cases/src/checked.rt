@@ -1,4 +1,4 @@
-// What a check tells of the files of logs, as the command does.
+// What a check reports about the files of logs, as the command does.
 use crate::fault::CaseFault;
 use dl_disk::Disk;
 use dl_tool::{Style, find_losses, find_strays, is_newer, push_losses, push_stray};

@@ -107,16 +107,16 @@ pub enum How {
     Starved {
         bytes: usize,
     },
-    /// The same of a hub that keeps its history.
+    /// In memory, with so many bytes left of the memory of a hub that keeps its history.
     StarvedKept {
         bytes: usize,
     },
-    /// In memory, on a file of which no more than its first bytes are left.
+    /// In memory, on a file that is cut to its first bytes.
     Cut {
         file: FileName,
         length: usize,
     },
-    /// In memory, on a file of which a byte is changed.
+    /// In memory, on a file in which a byte is changed.
     Changed {
         file: FileName,
         at: usize,

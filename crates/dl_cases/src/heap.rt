@@ -8,10 +8,10 @@ pub const HEAP_BYTES: usize = 1_048_576;
 /// The bytes of the least part of a heap.
 pub const PART_BYTES: usize = 16;
 
-// How many parts a heap is taken in at most.
+// The most parts in which a heap is allocated.
 const PARTS_LIMIT: usize = 1_000;
 
-/// Takes all of a heap but one part of so many bytes.
+/// Allocates all of a heap except one part of so many bytes.
 pub fn take_all_but<'h>(
     alloc: Global,
     heap: &'h LocalHeap,

@@ -75,7 +75,7 @@ fn run_alone(
     live_in_memory(alloc, files, own.as_slice(), &mut left, trial)
 }
 
-/// Runs a hub on a copy of these files, and puts the files that it and the commands after it leave in the place of `left`.
+/// Runs a hub on a copy of these files. Replaces `left` with the files that the hub and the commands after it leave.
 pub fn live_in_memory(
     alloc: Global,
     files: &MemoryDisk,
@@ -109,7 +109,7 @@ fn memory_hub(
     Hub::new(alloc, disk_under(alloc, files, life)?, blocks).map_err(CaseFault::Hub)
 }
 
-/// A disk with a copy of these files and of those that the steps lay down, which fails as the steps say.
+/// A disk with a copy of these files and of those that the steps lay down. It fails as the steps say.
 pub fn disk_under(
     alloc: Global,
     files: &MemoryDisk,

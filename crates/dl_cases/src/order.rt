@@ -4,7 +4,7 @@ use crate::case::{Failure, LaidFile, LateFailure, Spoil, Step, Sweep, Tool};
 use dl_disk::Fuse;
 use dl_types::{Base, FileName};
 
-/// The order that these words are, if they are one.
+/// Parses the words of an order, or returns `None` if they are no order.
 pub fn order_of(text: &str, number: u64) -> Option<Step<'_>> {
     let (order, others) = text.split_once(' ').unwrap_or((text, ""));
     match order {
@@ -38,7 +38,7 @@ fn file_of(text: &str) -> Option<LaidFile<'_>> {
     Some(LaidFile { name, digits })
 }
 
-// A failure of the device: BASE K FUSE, or BASE after N FUSE. `*` stands for all bases.
+// Parses a failure of the device: BASE K FUSE, or BASE after N FUSE. `*` means all bases.
 fn failing_of(text: &str, number: u64) -> Option<Step<'_>> {
     let (base, others) = text.split_once(' ')?;
     let base = match base {
@@ -92,8 +92,8 @@ pub fn is_late(steps: &[Step<'_>], step: Step<'_>) -> bool {
     begun.is_some_and(|step| !matches!(step, Step::Again))
 }
 
-/// Whether a step may stand in a case that is run again and again: it has one hub whose device does not fail, no command and
-/// no bad line.
+/// Whether a case that is run again and again may have this step. Such a case has one hub whose device does not fail,
+/// no command and no bad line.
 pub fn may_be_repeated(step: Step<'_>) -> bool {
     match step {
         Step::File(_) => true,

@@ -24,7 +24,7 @@ const MOST_ITEMS: u32 = 1_000_000;
 // The client that reads, which has no part in the log.
 const STRANGER: u32 = u32::MAX;
 
-// What stands before the items that were read.
+// What precedes the items that were read.
 const ITEMS: &str = "items";
 
 /// The lines that open a log and read it to its end.
@@ -35,7 +35,7 @@ pub struct Probe {
     chunks: String,
 }
 
-/// What an open of a log answered, and what the log had then.
+/// The answer to an open of a log, and what the log had then.
 #[derive(Drop)]
 pub struct Seen {
     pub opened: String,
@@ -60,7 +60,7 @@ impl Probe {
         Ok(Seen { opened, items })
     }
 
-    /// The same on a new hub over a copy of these files.
+    /// Opens the log and reads it, as `look` does, on a new hub over a copy of these files.
     pub fn look_at(
         &self,
         alloc: Global,

@@ -25,8 +25,8 @@ struct Bench<'h> {
     hub: Hub<MemoryDisk, &'h LocalHeap>,
 }
 
-/// Runs a case with each call refused memory at first, and then given more and more until it is done, if the case asks for it:
-/// on a hub, and on one that keeps its history.
+/// Runs a case, if it asks for it, on a hub and on one that keeps its history. Each call is refused memory at first,
+/// and then given more and more until it is done.
 pub fn run_refusals(alloc: Global, steps: &[Step<'_>], trial: &mut Trial) -> Result<(), CaseFault> {
     for step in steps {
         if let Step::Refuse(number) = step {

@@ -10,8 +10,8 @@ use std::alloc::{AllocError, Global};
 // How many bytes of an answer are shown if it differs.
 const SHOWN_BYTES: usize = 200;
 
-/// Runs the lines among these steps on a hub, as one script, and finds the first with another answer than the wanted one. What was
-/// wanted and what came is added to `told`.
+/// Runs the lines among these steps on a hub, as one script, and finds the first line whose answer is not the wanted
+/// one. Adds the wanted and the actual answer to the report.
 ///
 /// A bad line ends a script, so the lines after it are run as another one.
 pub fn run_lines<D: Disk + Drop>(

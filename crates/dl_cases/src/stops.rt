@@ -32,8 +32,8 @@ pub struct Plan<'a> {
     pub logs: Vec<History>,
 }
 
-/// Runs a case, if it asks for that, with a process that is stopped at each call of the device in turn, and opens each log again on the
-/// files that are left.
+/// Runs a case, if it asks for that, and stops the process at each call of the device in turn. Opens each log again
+/// on the files that are left.
 pub fn run_stops(alloc: Global, steps: &[Step<'_>], trial: &mut Trial) -> Result<(), CaseFault> {
     let asked = steps.iter().find_map(|step| match step {
         Step::Stops(number) => Some(*number),

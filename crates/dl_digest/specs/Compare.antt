@@ -34,7 +34,7 @@ abbrev pub is_file : Extent → Bool
 is_file (extent.File generation) = true
 is_file extent.All = false
 
--- a file has just the items that its line tells
+-- a file has exactly the items that its line states
 abbrev pub IsHeld : List FileDigest → Extent → ItemsDigest → Type 0
 IsHeld files (extent.File generation) kept = digest_at generation files ≡ Some kept
 IsHeld files extent.All kept = ⊤

@@ -11,9 +11,12 @@ use dl_pipe::PipeFault;
 use dl_types::{Kind, Name, Refusal};
 use std::alloc::Allocator;
 
-/// What became of the items of a file that gives none now, where `files` are those that give items or bad bytes. The files of a
-/// log give way oldest first. So if an older one is there, the file did not give way, and its items are lost. Else the log is
-/// asked for the front of the file, which is a place of the log as long as the file is there.
+/// Returns the verdict on the items of a file that gives none now. `files` are the files that give items or bad
+/// bytes.
+///
+/// A log removes its files oldest first. So if an older file is there, the log did not remove this one, and its items
+/// are lost. Otherwise the log is asked for the front of the file, which is a place of the log as long as the file is
+/// there.
 pub fn compare_absent<D: Disk + Drop, A: Allocator + Copy>(
     alloc: A,
     hub: &mut Hub<D, A>,

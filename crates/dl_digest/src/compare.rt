@@ -15,12 +15,12 @@ use dl_pipe::PipeFault;
 use dl_types::{Kind, Name};
 use std::alloc::{AllocError, Allocator};
 
-/// What became of items of which a digest was taken.
+/// The result of comparing items with a digest that was taken of them before.
 #[derive(Clone, Copy, Debug, PartialEq, Eq)]
 pub enum Verdict {
-    /// They have this digest still.
+    /// The items still have this digest.
     Same,
-    /// Neither their file nor an older one is there: it gave way to another, or the log was emptied.
+    /// Neither their file nor an older one is there: another file replaced it, or the log was emptied.
     Gone,
     /// There are fewer items, or none.
     Shorter,
@@ -28,18 +28,18 @@ pub enum Verdict {
     Changed,
 }
 
-/// What a line tells, and what became of it.
+/// A line, and the verdict on its items.
 #[derive(Clone, Copy, Debug, PartialEq, Eq)]
 pub struct Compared {
     pub line: DigestLine,
     pub verdict: Verdict,
 }
 
-/// Holds a log against those lines that are of it, and returns each of them, in order, with what became of its items. The log is
-/// opened to read alone, and not at all if no line is of it.
+/// Compares a log with those lines that name it, and returns each of them, in order, with its verdict. Opens the log
+/// to read alone, and only if a line names it.
 ///
-/// The line of all items is held against the log only if the log has just the files with just the numbers of items that the
-/// lines of its files tell. Else it passes as the same, since a log may have grown.
+/// The line of all items is compared only if the log has exactly the files that its other lines name, with exactly
+/// the numbers of items in these lines. Otherwise it counts as the same, since a log may have grown.
 pub fn compare_log<D: Disk + Drop, A: Allocator + Copy>(
     alloc: A,
     hub: &mut Hub<D, A>,
@@ -238,7 +238,7 @@ fn is_file(extent: Extent) -> bool
     matches!(extent, Extent::File(_))
 }
 
-// Whether a file has just the items that its line tells.
+// Whether a file has exactly the items that its line states.
 fn holds(files: &[FileDigest], line: DigestLine) -> bool
     ensures { IsTrue result ↔ IsHeld files.now line.extent line.digest }
 {

@@ -7,7 +7,7 @@ use dl_types::Item;
 use sha2::{Digest, Sha256};
 use std::alloc::Allocator;
 
-/// What is kept of a list of items.
+/// The digest of a list of items: their number and their hash.
 #[derive(Clone, Copy, Debug, PartialEq, Eq)]
 pub struct ItemsDigest {
     /// How many items there are. The number stops at the greatest `u64`.
@@ -16,7 +16,7 @@ pub struct ItemsDigest {
     pub hash: [u8; 32],
 }
 
-/// Items that are taken into a digest one after another.
+/// A digest in progress, to which items are added one after another.
 #[derive(Drop)]
 pub struct Hashing {
     items: u64,

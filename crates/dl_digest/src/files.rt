@@ -45,7 +45,8 @@ impl OpenFile {
     }
 }
 
-/// Digests of items that are taken in the order of a log. A file ends where an item of another generation comes.
+/// Digests in progress, one for each file of a log. Items are added in the order of the log. A file ends where an
+/// item of another generation comes.
 #[derive(Drop)]
 pub struct FileDigests<A: Allocator> {
     done: Vec<FileDigest, A>,

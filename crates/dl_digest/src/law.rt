@@ -11,7 +11,7 @@ ghost use Rattle.dl_digest.specs.Files.{by_file, parts_of};
 
 use std::alloc::Allocator;
 
-/// The digest of the items that chunks gave is the SHA-256 of what a raw dump of these chunks writes.
+/// The digest of the items that chunks gave is the SHA-256 of the raw dump of these chunks.
 pub fn digest_is_of_a_dump<A: Allocator>()
     ensures { (given : List (Outcome A)) → (digest_of (items_of given)).hash ≡ sha256 (dump_text form.Raw false given) }
 {}

@@ -18,7 +18,7 @@ pub enum Extent {
     All,
 }
 
-/// A digest as a line tells it: the name of the log, the generation or `all`, how many items there are, and the hash in
+/// A digest as a line of text: the name of the log, the generation or `all`, the number of items, and the hash in
 /// hexadecimal digits, with a space between them.
 #[derive(Clone, Copy, Debug, PartialEq, Eq)]
 pub struct DigestLine {

@@ -65,7 +65,7 @@ fn next_digest<R: BufRead, A: Allocator>(
     }
 }
 
-// The digest that a line tells.
+// Parses the digest that a line states.
 fn digest_of(text: &[u8]) -> Option<DigestLine>
     ensures { IfSome result (λ line. line_text line ≡ text.now) }
 {

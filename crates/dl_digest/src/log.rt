@@ -62,7 +62,7 @@ pub struct LogDigests<A: Allocator> {
     pub gaps: Vec<Gap, A>,
 }
 
-/// Takes items of a log into digests, oldest first. The log is opened to read alone, so no file changes. Chunks are read
+/// Computes the digests of a log's items, oldest first. Opens the log to read alone, so no file changes. Reads chunks
 /// until they gave as many items as are asked for, or the log ends.
 pub fn digest_log<D: Disk + Drop, A: Allocator + Copy>(
     alloc: A,

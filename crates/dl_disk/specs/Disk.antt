@@ -65,6 +65,6 @@ abbrev pub IsShorter : Option (List ℕ) → ℕ → Type 0
 IsShorter None end = ⊤
 IsShorter (Some text) end = length text < end
 
--- no name stands at two places
+-- no name is in the list twice
 abbrev pub IsOnce : List FileName → Type 0
 IsOnce names = (i j : ℕ) (d : FileName) → i < length names → j < length names → slice_index_or names i d ≡ slice_index_or names j d → i ≡ j

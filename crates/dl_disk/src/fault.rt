@@ -4,7 +4,7 @@ use std::fs::TryLockError;
 use std::io;
 use thiserror::Error;
 
-/// A call of the device failed, or was one that no device can do, as a write to a file that is not there.
+/// A call of the device failed, or no device can do it, such as a write to a missing file.
 #[derive(Clone, Copy, Debug, PartialEq, Eq, Error)]
 #[error("device fault")]
 pub struct Fault;

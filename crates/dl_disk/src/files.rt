@@ -25,7 +25,7 @@ pub(crate) fn text_of<A: Allocator>(files: &Files<A>, file: FileName) -> Option<
     }
 }
 
-/// Puts a whole file in the place of what was there.
+/// Creates a file with these bytes, or replaces the whole file that is there.
 pub(crate) fn lay<A: Allocator + Copy>(
     files: &mut Files<A>,
     file: FileName,
@@ -100,7 +100,7 @@ pub(crate) fn cut<A: Allocator>(
     Ok(())
 }
 
-/// Gives a file another name, in the place of what had it. Its bytes are not copied.
+/// Renames a file, replacing the file that had the new name. Its bytes are not copied.
 pub(crate) fn rename<A: Allocator + Copy>(
     files: &mut Files<A>,
     from: FileName,

@@ -7,11 +7,12 @@ use dl_types::FileName;
 use std::fmt::Display;
 use std::{fmt, io};
 
-/// Why the last call of a disk that failed did, and on which file. A sync that fails since an earlier one of its file did has the
-/// reason of that one, unless a call on another file failed between.
+/// Why the last failed call of a disk failed, and on which file. A sync that fails because an earlier sync of the
+/// file failed has the reason of that one, unless a call on another file failed in between.
 #[derive(Clone, Copy, Debug, PartialEq, Eq)]
 pub struct Reason {
-    /// The file that was called for. The call may have failed at another one under its base, as at the sync of one before a put.
+    /// The file of the call. The call may have failed at another file of its base, for example at the sync of one
+    /// before a put.
     pub file: FileName,
     pub cause: Cause,
 }
@@ -25,7 +26,8 @@ pub enum Cause {
     OutOfMemory,
     /// What has the name of the file is a link, a folder or a pipe.
     NotPlain,
-    /// The file is shorter than this disk left it, so another program has cut it, or than it was asked for.
+    /// The file is shorter than this disk left it, because another program has cut it, or shorter than the call
+    /// needs.
     Shorter,
     /// The system did this sync of the file, but an earlier one failed. Bytes that were written before that may be lost.
     Lost,

@@ -5,7 +5,7 @@ use crate::reason::Cause;
 use dl_types::FileName;
 use std::fs::File;
 
-/// A file whose sync a disk began and does not wait for, with a handle of its own.
+/// A sync of a file that a disk began and does not wait for. It has a handle of its own.
 #[derive(Drop)]
 pub struct Syncing {
     file: FileName,
@@ -33,7 +33,7 @@ impl Syncing {
         self.file
     }
 
-    /// Why the wait was in vain, if it was.
+    /// Why the wait failed, if it did.
     pub(crate) fn cause(&self) -> Option<Cause>
         ensures { result ≡ self.now.cause }
     {

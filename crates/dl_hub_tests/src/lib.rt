@@ -1,4 +1,4 @@
-//! Tests of the hub and of scripts, by their public calls. They load all layers, which no other tests do.
+//! Tests of the hub and of scripts, by their public calls. They load all layers; no other tests do.
 #![tactic(auto)]
 
 #[cfg(test)]

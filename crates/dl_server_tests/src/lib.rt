@@ -1,5 +1,5 @@
-//! Tests of the server, by its public calls and with threads. They load all layers that a server stands on, and stand apart
-//! since a crate with tests is proved twice.
+//! Tests of the server, by its public calls and with threads. They load all layers that a server needs. They are a
+//! crate of their own since a crate with tests is proved twice.
 #![tactic(auto)]
 
 #[cfg(test)]

@@ -1,5 +1,5 @@
-//! Tests of the bytes, the cache, the index, the owners and the disks, by their public calls. They stand apart since a
-//! crate with tests is proved twice, and load no file of a log.
+//! Tests of the bytes, the cache, the index, the owners and the disks, by their public calls. They load no file of a
+//! log. They are a crate of their own since a crate with tests is proved twice.
 #![tactic(auto)]
 
 #[cfg(test)]

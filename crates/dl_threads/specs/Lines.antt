@@ -17,7 +17,7 @@ HaveForms lines = All HasForm lines
 abbrev pub texts_of : {Z : Type 0} → List (Vec ℕ Z) → List (List ℕ)
 texts_of lines = map (λ line. line.items) lines
 
--- what is told of a script that was run
+-- the line that reports on a script that was run
 abbrev pub told : Bool → List ℕ
 told true = codes "settled\n"
 told false = codes "not settled\n"

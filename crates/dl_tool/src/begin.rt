@@ -11,9 +11,9 @@ use dl_disk::{Disk, ListFault};
 use dl_types::{Base, FileName, Kind};
 use std::alloc::{AllocError, Allocator};
 
-/// The files that are in the way of a log that is not there: all of its base, that of a log of the other kind first, and then
-/// the numbered ones in their order. To begin the log beside them would hide them, or write over them. There are none if the
-/// log is there. Nothing is changed.
+/// The files that are in the way of a log that is not there: all files of its base, first that of a log of the other
+/// kind, and then the numbered ones in their order. To begin the log beside them would hide them, or write over them.
+/// If the log is there, no file is in its way. Nothing is changed.
 pub fn files_in_way<D: Disk, A: Allocator + Copy>(
     alloc: A,
     disk: &mut D,

@@ -20,8 +20,9 @@ pub struct Closed {
     pub items: u64,
 }
 
-/// What the last file of a log was closed with, by its head alone. None if there is no such file, a file of another generation
-/// has its name, it is marked as that of an open log, or its layout counts no items. Nothing is changed.
+/// What the last file of a log was closed with, by its head alone. Returns `None` if there is no such file, a file of
+/// another generation has its name, it is marked as that of an open log, or its layout counts no items. Nothing is
+/// changed.
 pub fn find_closed<D: Disk, A: Allocator + Copy>(
     alloc: A,
     disk: &mut D,

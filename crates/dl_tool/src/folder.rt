@@ -11,7 +11,7 @@ use dl_disk::{Disk, ListFault};
 use dl_types::{Base, FileName, Kind, Part};
 use std::alloc::{AllocError, Allocator};
 
-/// The logs of a folder in order of base. A halt log is there if its file is, and a wrap log if its index is.
+/// The logs of a folder in order of base. There is a halt log if its file is there, and a wrap log if its index is.
 pub fn find_logs<D: Disk, A: Allocator + Copy>(
     alloc: A,
     disk: &mut D,
@@ -41,7 +41,7 @@ pub fn sorted_names<D: Disk, A: Allocator + Copy>(
     Ok(names)
 }
 
-/// Those of the logs that have this base, or, if none has it, a halt log of the base, which a check then finds absent.
+/// Those of the logs that have this base. If none has it, a halt log of the base, which a check then finds absent.
 pub fn logs_named<A: Allocator + Copy>(
     alloc: A,
     logs: &[LogFiles],

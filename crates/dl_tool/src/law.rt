@@ -18,8 +18,9 @@ ghost use Rattle.dl_tool.specs.Report.{is_opened, is_unread};
 
 use std::alloc::Allocator;
 
-/// The law of a check, over the definitions alone: a log that could be read is found to be opened as it is if and only if it is there and
-/// an open of it, which asks for nothing but a log of its kind, answers that it was opened.
+/// The law of a check, by the definitions alone. Take a log that could be read, and an open that asks for nothing but
+/// a log of its kind. The check finds that the log is opened as it is if and only if the log is there and the open
+/// answers that it was opened.
 pub fn clean_is_opened<A: Allocator>()
     ensures { (client : ClientId) (name : Name) (kind : Kind) (s : LogState) (content : Content) (found : Finding) → s.open_as ≡ None → IsFinding A content (base_of name) kind (s.files (base_of name) kind) found
         → is_unread found ≡ false → (is_opened found ≡ true) ↔ ((s.files (base_of name) kind ≢ files.Absent) × ((alone {Z = A} name s (event.Call client name (call.Open (plain_args kind)))).reply ≡ reply.Opened)) }

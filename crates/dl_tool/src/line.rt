@@ -8,7 +8,7 @@ use dl_types::{Base, FileName, Kind, Refusal};
 use std::alloc::{AllocError, Allocator};
 use std::io::Write;
 
-/// A log of a folder, open or not: it is named by its files.
+/// A log of a folder, open or not, named by its files.
 #[derive(Clone, Copy)]
 pub struct LogFiles {
     /// What the names of its files begin with.
@@ -29,7 +29,7 @@ pub fn push_line<A: Allocator + Copy>(
     push_bytes(text, b"\n")
 }
 
-/// The word of a log that is opened as it is, by what is wrong of its older files: that they have bad bytes, or count another
+/// The word for a log that is opened as it is. It says whether the older files have bad bytes, or count another
 /// number of items than they have.
 pub fn whole_word(amount: Amount) -> &'static str
     ensures { result.now ≡ whole_word amount }

@@ -26,8 +26,8 @@ pub struct Losses {
     pub zeros: bool,
 }
 
-/// What a file shows of items that were lost, as by a machine that stopped before the device had them. The file is read piece by
-/// piece, its last item twice, and nothing is changed.
+/// What a file shows of items that were lost, for example because a machine stopped before the device had them. The
+/// file is read piece by piece, its last item twice, and nothing is changed.
 pub fn find_losses<D: Disk, A: Allocator + Copy>(
     alloc: A,
     disk: &mut D,

@@ -10,9 +10,11 @@ use dl_disk::Disk;
 use dl_types::FileName;
 use std::alloc::Allocator;
 
-/// Whether a file is newer than all files that the index of its base names: it begins with a head of a greater generation. False
-/// if there is no index. The index of a log is written before the file that it names last is begun, so such an index is an older
-/// one that was put back, or was begun anew after the right one was lost. Nothing is changed.
+/// Whether a file is newer than all files that the index of its base names: it begins with a head of a greater
+/// generation. False if there is no index. Nothing is changed.
+///
+/// A log writes its index before it begins the file that the index names last. So such an index is an older one that
+/// was put back, or was begun anew after the right one was lost.
 pub fn is_newer<D: Disk, A: Allocator + Copy>(
     alloc: A,
     disk: &mut D,

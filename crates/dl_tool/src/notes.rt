@@ -32,7 +32,7 @@ pub fn push_stray<A: Allocator>(
     .map_err(|_| AllocError)
 }
 
-/// Adds the lines of what a file shows of items that were lost, of which there may be none.
+/// Adds a line for each sign of lost items that a file shows. There may be none.
 pub fn push_losses<A: Allocator>(
     text: &mut Vec<u8, A>,
     style: Style,

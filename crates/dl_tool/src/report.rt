@@ -17,7 +17,7 @@ use std::alloc::{AllocError, Allocator};
 use std::io::Write;
 use thiserror::Error;
 
-/// How logs stand, all in all.
+/// The overall state of logs.
 #[derive(Clone, Copy, Debug, PartialEq, Eq)]
 pub enum Health {
     /// Each is clean: it is opened as it is, and no file has bad bytes or a wrong count.
@@ -44,8 +44,9 @@ impl From<AllocError> for ReportFault {
     }
 }
 
-/// Checks each of these logs, which are not open, and writes what it finds of each, in their order. The last files of those
-/// that need a repair are added to `torn`, if they may show losses ([`find_losses`](crate::find_losses)). Nothing is changed.
+/// Checks each of these logs, which are not open, and writes what it finds of each, in their order. Some logs need a
+/// repair, and their last files may show losses ([`find_losses`](crate::find_losses)): these files are added to
+/// `torn`. Nothing is changed.
 pub fn check_logs<D: Disk, W: Write, A: Allocator + Copy>(
     alloc: A,
     disk: &mut D,
@@ -125,7 +126,7 @@ pub fn tally_with(tally: Tally, found: Finding) -> Tally
     }
 }
 
-/// How logs stand, by what was found of them.
+/// The overall state of logs, by what was found of them.
 pub fn health_by(tally: Tally) -> Health
     ensures { result ≡ health_by tally.unread tally.clean }
 {

@@ -58,8 +58,8 @@ impl From<ListFault> for StrayFault {
     }
 }
 
-/// The numbered files of a folder that the index of their base does not name, or whose base has no index, in order of base
-/// and number. No log has them, and a wrap log that comes to such a number puts a file in its place. If the text of an
+/// The numbered files of a folder that belong to no log, in order of base and number: the index of their base does
+/// not name them, or there is no index. A wrap log that comes to such a number replaces the file. If the text of an
 /// index is no index, the files of its base are left out. Each index is read once, and nothing is changed.
 pub fn find_strays<D: Disk, A: Allocator + Copy>(
     alloc: A,

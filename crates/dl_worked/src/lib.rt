@@ -1,6 +1,6 @@
-//! Worked scripts of one log: what is asked line for line, and the answers, which the definitions of `dl_types` give by
-//! computation. They load `dl_types` alone, and stand apart since no crate calls them: what stands on `dl_types` need not wait
-//! for them.
+//! Worked scripts of one log: its calls line for line, and the answers, which the definitions of `dl_types` give by
+//! computation. They load `dl_types` alone. They are a crate of their own since no crate calls them, so no crate that
+//! needs `dl_types` has to wait for them.
 #![tactic(auto)]
 
 pub mod halt;

@@ -1,4 +1,4 @@
-// What is told of an append.
+// Messages about an append.
 ghost use Rattle.std.specs.Prelude.{◌≡◌, IfOk, OnErr};
 ghost use Rattle.std.specs.Process.{exit_status};
 ghost use Rattle.dlog.specs.Status.{append_status};
@@ -21,7 +21,7 @@ pub struct Report<'a> {
     pub closed: Option<Closed>,
 }
 
-/// Says what an append came to, unless all items were logged, nothing was repaired, and the device did not fail.
+/// Reports the result of an append, unless all items were logged, nothing was repaired, and the device did not fail.
 pub fn end(
     rt: &HostRuntime,
     report: Report<'_>,

@@ -6,9 +6,9 @@ use dl_tool::{LogFiles, files_in_way, find_strays_of, is_newer, last_file};
 use dl_types::{Base, FileName, Kind, Part};
 use std::process::ExitCode;
 
-/// Whether a log may be opened to be written, which begins it if it is not there. It may not be begun where a log of the other
-/// kind has its name, or files that no index names, and not be written where such files are newer than its index: an `Err` is the
-/// status after a message on them.
+/// Whether a log may be opened to be written, which begins it if it is not there. It may not be begun where a log of
+/// the other kind has its name, or where files that no index names have it. It may not be written where such files
+/// are newer than its index. An `Err` is the status after a message on these files.
 pub fn may_open(
     rt: &HostRuntime,
     disk: &mut FolderOfLogs,

@@ -21,11 +21,11 @@ pub fn check_command<'a>(alloc: Global) -> Result<Command<'a>, AllocError> {
     let digests = Arg::new(alloc, "digests")
         .long("digests")
         .value_name("FILE")
-        .help("Hold the logs against the lines in FILE too, which dlog digest told before");
+        .help("Also compare the logs with the lines in FILE, which dlog digest printed before");
     Command::new(alloc, "check")
         .about("Check the logs of a folder, and change nothing")
         .after_help(
-            "A line is told for each log: how much it has, and `clean`, `damaged` if older files of a wrap log have bad bytes, `miscounted` if some count another number of items than they have, or what an open would do. The last file of a log that needs a repair is told as `miscounted` if it was closed with another number of items than it has, and as `zeros` if its last item has no byte but zeros; a numbered file that no index names as `stray`, and whether it is newer than the files of its index.\nWith --digests a line is told for each digest that does not hold: `changed` if the items have another one, `shorter` if there are fewer or none, and `gone` if neither their file nor an older one is there, since it gave way to another or the log was emptied. Items that came since are no change.\nThe status is 0 if all are clean, nothing is stray, and no digest says changed or shorter, 1 if not, 2 if FILE has a line that is no digest, and 3 if a log or FILE could not be read.\n\nExamples: dlog check logs audit\n          dlog check logs --digests audit.digests",
+            "Prints a line for each log: how much it has, and `clean`, `damaged` if older files of a wrap log have bad bytes, `miscounted` if some count another number of items than they have, or what an open would do. The last file of a log that needs a repair is reported as `miscounted` if it was closed with another number of items than it has, and as `zeros` if its last item has no byte but zeros. A numbered file that no index names is reported as `stray`, and as newer if it is newer than the files of its index.\nWith --digests it prints a line for each digest that does not hold: `changed` if the items have another one, `shorter` if there are fewer or none, and `gone` if neither their file nor an older one is there, since another file replaced it or the log was emptied. Items that came since are no change.\nThe status is 0 if all are clean, nothing is stray, and no digest says changed or shorter, 1 if not, 2 if FILE has a line that is no digest, and 3 if a log or FILE could not be read.\n\nExamples: dlog check logs audit\n          dlog check logs --digests audit.digests",
         )
         .arg(folder_word(alloc))?
         .arg(names_word(alloc))?
@@ -38,7 +38,7 @@ pub fn list_command<'a>(alloc: Global) -> Result<Command<'a>, AllocError> {
     Command::new(alloc, "list")
         .about("List the logs of a folder, and change nothing")
         .after_help(
-            "A row is told for each log, under a head, and a last one for all.\nThe status is that of check, but that nothing is said of stray files.\n\nExample: dlog list logs",
+            "Prints a table: a head, a row for each log, and a last row for all logs.\nThe status is that of check, except that stray files are reported with --json alone.\n\nExample: dlog list logs",
         )
         .arg(folder_word(alloc))?
         .arg(names_word(alloc))?
@@ -59,7 +59,7 @@ pub fn json_word<'a>(alloc: Global) -> Arg<'a> {
     Arg::new(alloc, "json")
         .long("json")
         .action(ArgAction::SetTrue)
-        .help("Tell of each log by a JSON object, one a line")
+        .help("Print a JSON object for each log, one a line")
 }
 
 /// Checks the logs that the words name.
@@ -205,7 +205,7 @@ fn list_folder(
     Ok(end(rt, listed, written))
 }
 
-/// The logs that the words name, of which no two have the same name: a digest tells no kind.
+/// The logs that the words name. Two logs of the same name are refused, since a digest does not state the kind.
 pub fn logs_of_one_kind(
     rt: &HostRuntime,
     options: &ArgMatches<'_>,
@@ -217,7 +217,7 @@ pub fn logs_of_one_kind(
         Ok(Some(base)) => Err(tell(
             rt,
             format_args!(
-                "{base}: there is a halt log and a wrap log, and a digest tells no kind: name other logs"
+                "{base}: there is a halt log and a wrap log, and a digest does not state the kind: name other logs"
             ),
             MISUSED,
         )),

@@ -1,4 +1,4 @@
-// What is told of a close at which the device failed.
+// Messages about a close at which the device failed.
 ghost use Rattle.std.specs.Prelude.{◌≡◌};
 ghost use Rattle.std.specs.Process.{exit_status};
 ghost use Rattle.dlog.specs.Status.{closing_status};
@@ -10,14 +10,14 @@ use dl_pipe::{Closing, PipeFault};
 use dl_types::{FileName, Name, Refusal};
 use std::process::ExitCode;
 
-/// Tells that a log was closed after all, though the device failed at one of its files as that was tried first.
+/// Reports that a log was closed after all, though the device failed at one of its files in the first try.
 pub fn tell_finished(rt: &HostRuntime, log: Name, file: FileName) {
     let _ = eprintln!(rt;
         "dlog: {log}: the device failed at {file} as the log was closed: it was tried again, and all was written"
     );
 }
 
-/// Tells what becomes of a log that was not closed, since the device failed at each try.
+/// Reports what happens to a log that was not closed, since the device failed at each try.
 pub fn tell_lingering(rt: &HostRuntime, what: &str) {
     say(
         rt,
@@ -27,7 +27,7 @@ pub fn tell_lingering(rt: &HostRuntime, what: &str) {
     );
 }
 
-/// Says what became of the close of a log that was repaired, by why the system refused a file last.
+/// Reports the result of closing a log that was repaired, by why the system refused a file last.
 pub fn tell_closing(
     rt: &HostRuntime,
     place: Place<'_>,

@@ -16,7 +16,7 @@ pub fn on_disk<'a>(alloc: Global, command: Command<'a>) -> Result<Command<'a>, A
         .long("folder")
         .value_name("DIR")
         .help(
-            "Keep the files in the folder DIR, which has to be there, and open those that it has. Without it they are in memory",
+            "Keep the files in the folder DIR, which has to exist, and open those that it has. Without --folder they are in memory",
         );
     let blocks = Arg::new(alloc, "blocks")
         .long("blocks")

@@ -1,4 +1,4 @@
-// What is told of a fault of the work on a log.
+// Messages about a fault of the work on a log.
 ghost use Rattle.std.specs.Prelude.{◌≡◌};
 ghost use Rattle.std.specs.Process.{exit_status};
 
@@ -96,13 +96,13 @@ fn advise_on_device(rt: &HostRuntime, place: Place<'_>, file: FileName, reason: 
     }
 }
 
-/// The same for a refusal.
+/// Says what to do about a refusal, unless the refusal says it all.
 pub fn advise_on_refusal(rt: &HostRuntime, place: Place<'_>, refusal: Refusal) {
     let Place { folder, log, .. } = place;
     match refusal {
         Refusal::NoFile => say(
             rt,
-            format_args!("dlog list {folder} tells which logs there are"),
+            format_args!("dlog list {folder} shows which logs there are"),
         ),
         Refusal::StaleContinuation => say(
             rt,
@@ -134,7 +134,7 @@ fn advise_on_files(rt: &HostRuntime, place: Place<'_>, refusal: Refusal) {
         Refusal::InvalidIndexFile => say(
             rt,
             format_args!(
-                "{folder}/{log}.idx is damaged, or names a file that is missing or has given way: put back what was there, or move the files of {log} away"
+                "{folder}/{log}.idx is damaged, or names a file that is missing or was replaced: put back what was there, or move the files of {log} away"
             ),
         ),
         Refusal::CorruptFile(number) => {
@@ -178,7 +178,8 @@ fn file_of(log: Name, number: u32) -> FileName {
     }
 }
 
-/// Says why the system refuses a file of a folder. It is asked again; if it tells nothing then, what there is to look at is said.
+/// Says why the system refuses a file of a folder. Asks the system again. If that gives no reason, says what to look
+/// at.
 pub fn advise_on_file(rt: &HostRuntime, folder: &str, file: FileName, writes: bool) {
     match look_at(rt, folder, file, writes) {
         Ok(Look::Plain) => say(

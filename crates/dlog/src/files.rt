@@ -51,7 +51,7 @@ fn tell_stray(
     print(rt, told, &text)
 }
 
-// Whether a file has the base of one of these logs, or is to be told whatever its base is.
+// Whether a file has the base of one of these logs, or is to be reported whatever its base is.
 fn is_asked(file: FileName, logs: Option<&[LogFiles]>) -> bool {
     match logs {
         None => true,

@@ -18,7 +18,7 @@ pub fn folder_word<'a>(alloc: Global) -> Arg<'a> {
     Arg::new(alloc, "folder")
         .value_name("FOLDER")
         .required(true)
-        .help("The folder of the logs, which has to be there")
+        .help("The folder of the logs, which has to exist")
 }
 
 /// The word that has a wrap log go to its next file without a sync.
@@ -27,7 +27,7 @@ pub fn rolls_word<'a>(alloc: Global) -> Arg<'a> {
         .long("unsynced-rolls")
         .action(ArgAction::SetTrue)
         .help(
-            "Let a wrap log in a folder begin its next file before the bytes of the last one are on the device, which takes less time; a power cut can then take all its items",
+            "Let a wrap log in a folder begin its next file before the bytes of the last one are on the device. This takes less time, but a power cut can then take all items of the log",
         )
 }
 

@@ -56,7 +56,8 @@ fn tell_unlisted(rt: &HostRuntime, path: &str, why: Why, fault: ListFault) -> Ex
     }
 }
 
-/// Logs, and those that lines name and are not among them, as halt logs, which a check finds absent.
+/// These logs, and those that the lines name and that are not among them. The latter count as halt logs, which a
+/// check then finds absent.
 pub fn with_missing(
     rt: &HostRuntime,
     found: Vec<LogFiles>,
@@ -69,7 +70,7 @@ pub fn with_missing(
     }
 }
 
-/// Holds logs of a folder against these digests. What does not hold is told, and the status says so.
+/// Compares logs of a folder with these digests. Reports each difference, and returns the exit status.
 pub fn compare_logs(
     rt: &HostRuntime,
     folder: &str,
@@ -121,7 +122,7 @@ fn end(
 ) -> u8 {
     match done {
         Ok(compared) => tell_each(rt, &compared, style),
-        // The check has told that the log is absent.
+        // The check has reported that the log is absent.
         Err(PipeFault::Refused(Refusal::NoFile)) => UNCLEAN,
         Err(fault) => {
             let status = fault_status(fault);

@@ -8,7 +8,7 @@ use std::fmt::Display;
 use std::io::{Error, Read, Result, Write};
 use std::process::ExitCode;
 
-/// The system's number of why it refused a stream, if it has told one.
+/// The system's error number for a stream that it refused, if it gave one.
 #[derive(Clone, Copy, Debug, PartialEq, Eq)]
 pub struct Why(pub Option<i32>);
 

@@ -1,4 +1,4 @@
-// What is told of why the system refused a file.
+// Messages about why the system refused a file.
 use crate::faults::say;
 use dl_disk::{Cause, Reason};
 use std::io;

@@ -19,7 +19,7 @@ pub fn command<'a>(alloc: Global) -> Result<Command<'a>, AllocError> {
     let command = Command::new(alloc, "serve")
         .about("Answer the frames of a program on standard input and output")
         .after_help(
-            "Each frame is a length in four bytes, greatest first, and so many bytes; docs/PROTOCOL.md has their form. As the input ends, the logs are closed, and what the device does not take is tried again a few times.\nThe status is 0 if the input was served to its end and nothing was left unwritten, 1 if not, and 2 for wrong words.",
+            "Each frame is a length in four bytes, greatest first, and that many bytes; docs/PROTOCOL.md has their form. When the input ends, dlog serve closes the logs, and tries again a few times what the device does not take.\nThe status is 0 if the input was served to its end and nothing was left unwritten, 1 if not, and 2 for wrong words.",
         );
     on_disk(alloc, command)
 }

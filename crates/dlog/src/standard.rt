@@ -6,8 +6,8 @@ use std::os::fd::AsRawFd;
 // Standard input, output and error, which have the descriptors 0, 1 and 2.
 const STREAMS: usize = 3;
 
-/// Opens `/dev/null` in the place of each standard stream that is closed, as one may be that a shell starts with `>&-`. Otherwise
-/// the system would give its descriptor to a file of a log, and what is told on the stream would be written over the log. The
+/// Opens `/dev/null` for each standard stream that is closed, as a shell closes one with `>&-`. Otherwise the system
+/// would give its descriptor to a file of a log, and messages for the stream would be written over the log. The
 /// streams stay open as long as what is returned.
 pub fn filled_streams(rt: &HostRuntime) -> io::Result<Vec<File>> {
     let mut filled = Vec::new(rt.alloc());

@@ -24,10 +24,10 @@ use std::time::Clock;
 pub fn command<'a>(alloc: Global) -> Result<Command<'a>, AllocError> {
     let command = Command::new(alloc, "threads")
         .about(
-            "Run a script from standard input with a thread for each client, and print whether each had what the history of the logs has",
+            "Run a script from standard input with a thread for each client, and print whether each got what the history of the logs has",
         )
         .after_help(
-            "The script is read to its end before a client starts. Each client makes the calls of its lines in order and exits; beside them a thread writes what waits. The lines flush and file, and those of a client behind its exit, are passed over. A call that a block suspends waits until the block falls. So a script can block itself, as where each of two clients waits for the other's block to fall: dlog threads then hangs.\nPrinted is settled or not settled, and nothing else. All that is done is kept in memory until then.\nThe status is 0 if it is settled, 1 if not or if the script could not be run, and 2 for wrong words or a line of no form.\n\nExample: dlog threads --blocks 1 < calls.script",
+            "The script is read to its end before a client starts. Each client makes the calls of its lines in order and exits, while another thread writes what waits. The lines flush and file, and those of a client after its exit, are skipped. A call that a block suspends waits until the block ends. So a script can block itself, as where each of two clients waits for the other's block to end: dlog threads then hangs.\nIt prints settled or not settled, and nothing else. All that is done is kept in memory until then.\nThe status is 0 if it is settled, 1 if not or if the script could not be run, and 2 for wrong words or a line of no form.\n\nExample: dlog threads --blocks 1 < calls.script",
         );
     on_disk(alloc, command)
 }

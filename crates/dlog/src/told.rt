@@ -1,11 +1,11 @@
-// What is told of a log that is followed.
+// Messages about a log that is followed.
 use crate::faults::{Place, advise_on_file, say};
 use crate::{FAILED, UNREAD, tell};
 use dl_tail::{Position, TailFault};
 use dl_types::Name;
 use std::process::ExitCode;
 
-/// Tells of bytes that are no item's.
+/// Reports bytes that are no item's.
 pub fn tell_torn(rt: &HostRuntime, log: Name, end: Position) {
     let Position {
         generation,
@@ -17,22 +17,22 @@ pub fn tell_torn(rt: &HostRuntime, log: Name, end: Position) {
     );
 }
 
-/// Tells that files were passed over.
+/// Reports that files were passed over.
 pub fn tell_passed(rt: &HostRuntime, log: Name, next: Position, emptied: bool) {
     let generation = next.generation;
     let what = if emptied {
         "it was emptied or moved"
     } else {
-        "files gave way before they were read"
+        "files were replaced before they were read"
     };
     let _ = eprintln!(rt;
-        "dlog: {log}: {what}: it goes on with the file of generation {generation}, and items may be missing before it"
+        "dlog: {log}: {what}: tail goes on with the file of generation {generation}, and items before it may be missing"
     );
 }
 
-/// Tells that the log is not there any more.
+/// Reports that the log is not there any more.
 pub fn tell_gone(rt: &HostRuntime, log: Name) {
-    let _ = eprintln!(rt; "dlog: {log}: it is not there any more, and is waited for");
+    let _ = eprintln!(rt; "dlog: {log}: the log is not there any more: tail waits for it");
 }
 
 /// Says that a file of the log is missing before its last items.
@@ -47,7 +47,7 @@ pub fn tell_missing(rt: &HostRuntime, place: Place<'_>) -> ExitCode {
     );
     say(
         rt,
-        format_args!("dlog check {folder} {log} tells how it stands"),
+        format_args!("dlog check {folder} {log} shows its state"),
     );
     told
 }

@@ -33,7 +33,7 @@ pub fn time_hub<D: Disk + Drop>(bench: Bench<'_>, disk: D) -> Result<Duration, F
     log_items(bench, &mut hub)
 }
 
-/// The same to a hub that keeps its history, or does not.
+/// How long it takes to log the items to a hub that keeps its history, or does not.
 pub fn time_recorded<D: Disk + Drop>(
     bench: Bench<'_>,
     disk: D,

@@ -42,7 +42,7 @@ pub struct Bench<'a> {
 }
 
 impl<'a> Bench<'a> {
-    /// The same with lines that name another place.
+    /// The same measures, with lines that name another place.
     pub fn at(self, place: &'a str) -> Bench<'a> {
         Bench { place, ..self }
     }

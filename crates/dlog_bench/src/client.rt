@@ -88,7 +88,7 @@ impl<D: Disk + Drop> Client<'_, D> {
         Ok(spent)
     }
 
-    /// Reads a log from its first item to its last, each of which is looked at and dropped. Returns how long that took.
+    /// Reads a log from its first item to its last, and looks at each. Returns how long that took.
     pub fn read(&mut self, log: Name) -> Result<Duration, Fault> {
         let start = Instant::now(self.bench.rt)?;
         let (mut from, mut passed) = (Place::Start, 0u64);

@@ -1,4 +1,4 @@
-// The measures with threads: each is taken several times, in turn with the others, and its best time is told.
+// The measures with threads: each is taken several times, in turn with the others, and its best time is reported.
 use crate::alone::{time_hub, time_recorded};
 use crate::bench::Bench;
 use crate::fault::Fault;
@@ -11,7 +11,7 @@ use std::sync::Wait;
 use std::thread::Threads;
 use std::time::{Clock, Duration};
 
-// How often each measure is taken where times are told.
+// How often each measure is taken where times are reported.
 const ROUNDS: u32 = 5;
 
 // What is logged to.

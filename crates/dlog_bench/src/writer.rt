@@ -64,7 +64,7 @@ fn log_items<R: Wait, D: Disk + Drop>(
     Ok(())
 }
 
-// Sends items. Where the ring is full, what was sent is taken in first.
+// Sends items. If the ring is full, the server first processes what was sent.
 fn send<R: Wait, D: Disk + Drop>(
     rt: &R,
     server: &Server<D>,

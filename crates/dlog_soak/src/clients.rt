@@ -52,7 +52,7 @@ fn send_all<R: Wait, D: Disk + Drop>(
     Some(())
 }
 
-// Sends an item, or has those before taken in if the ring of the client is full.
+// Sends an item, or has the server process those before it if the ring of the client is full.
 fn send_one<R: Wait, D: Disk + Drop>(
     rt: &R,
     alloc: Global,

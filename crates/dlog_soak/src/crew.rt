@@ -35,7 +35,7 @@ pub struct Soaked {
     pub seen: Seen,
 }
 
-/// Of how many rolls the watcher was told, how many it missed since its ring was full, and how many there were.
+/// How many rolls the watcher was notified of, how many it missed since its ring was full, and how many there were.
 #[derive(Clone, Copy)]
 pub struct Seen {
     pub told: u64,
@@ -81,7 +81,8 @@ fn watch_all<R: Threads + Wait + Clock + Sync, D: Disk + Drop + Send>(
     })
 }
 
-// Opens the logs, has the others work, and counts the rolls that it is told of and those that there were.
+// Opens the logs, has the others work, and counts two kinds of rolls: those that it is notified of and those that
+// there were.
 fn attend<R: Threads + Wait + Clock + Sync, D: Disk + Drop + Send>(
     rt: &R,
     alloc: Global,
@@ -96,7 +97,7 @@ fn attend<R: Threads + Wait + Clock + Sync, D: Disk + Drop + Send>(
     Some((told, rolls(rt, work.server, watcher, &logs)?))
 }
 
-// Starts a flusher and the others, and ends them. Returns how many rolls were told meanwhile.
+// Starts a flusher and the others, and ends them. Returns how many rolls were reported meanwhile.
 fn share<R: Threads + Wait + Clock + Sync, D: Disk + Drop + Send>(
     rt: &R,
     alloc: Global,
@@ -117,7 +118,8 @@ fn share<R: Threads + Wait + Clock + Sync, D: Disk + Drop + Send>(
     })
 }
 
-// Has the senders, those that sync and the visitors work while the watcher watches. Returns how many rolls it was told of, if all could work.
+// Has the senders, those that sync and the visitors work while the watcher watches. Returns how many rolls the
+// watcher was notified of, if all could work.
 fn crowd<R: Threads + Wait + Clock + Sync, D: Disk + Drop + Send>(
     rt: &R,
     alloc: Global,

@@ -10,7 +10,7 @@ use std::time::{Clock, Duration};
 // How many milliseconds pass between two looks.
 const PAUSE: u64 = 1;
 
-/// Opens the logs as an owner that is told of their rolls.
+/// Opens the logs as an owner that is notified of their rolls.
 pub fn open_all<R: Wait, D: Disk + Drop>(
     rt: &R,
     server: &Server<D>,
@@ -23,7 +23,7 @@ pub fn open_all<R: Wait, D: Disk + Drop>(
     Some(())
 }
 
-/// Counts the rolls that the client is told of, for this time.
+/// Counts the rolls that the client is notified of, for this time.
 pub fn watch<R: Wait + Clock>(rt: &R, client: &mut Client<'_>, time: Duration) -> Option<u64> {
     let end = rt.monotonic().ok()?.checked_add(time)?;
     let mut told: u64 = 0;
@@ -37,7 +37,7 @@ pub fn watch<R: Wait + Clock>(rt: &R, client: &mut Client<'_>, time: Duration) -
     Some(told)
 }
 
-/// Counts the rolls that the client was told of and has not seen.
+/// Counts the rolls that the client was notified of and has not seen.
 pub fn count(client: &mut Client<'_>) -> u64 {
     let mut told: u64 = 0;
     for _ in 0..u64::MAX {

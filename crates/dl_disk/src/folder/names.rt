@@ -51,9 +51,12 @@ impl<R: Files<File = File> + AllocGlobal + Clone + Drop> Folder<R> {
         Ok(())
     }
 
-    /// Puts a whole file in the place of what was there. A stop leaves either the old file or the new one. Names under its base that
-    /// are owed from an earlier change are made durable first, and so is what other files under its base owe. The name of a file that
-    /// was not there becomes durable later, with others, unless one of its base was moved away before.
+    /// Creates a file with these bytes, or replaces the whole file that is there. A stop leaves either the old file
+    /// or the new one.
+    ///
+    /// Names under its base that are owed from an earlier change are made durable first, and so is what other files
+    /// under its base owe. The name of a new file becomes durable later, with others, unless a file of its base was
+    /// moved away before.
     pub(crate) fn put(&mut self, file: FileName, bytes: &[u8]) -> io::Result<()>
         ensures closed { IsClosed self.new.kept.files.entries file }
         ensures beside { OnOk result (self.old.syncs ≡ AtRolls → IsSettledBeside self.new.owed file) }
@@ -77,9 +80,9 @@ impl<R: Files<File = File> + AllocGlobal + Clone + Drop> Folder<R> {
         Ok(())
     }
 
-    /// Gives a file another name, in the place of what had it. Names that are owed from an earlier change are made durable
-    /// first, and so is what it and other files under its base owe: their log is closed by that, and nobody could ask for a
-    /// sync of them.
+    /// Renames a file, replacing the file that had the new name. Names that are owed from an earlier change are made
+    /// durable first. So is what the file and other files under its base owe: the rename closes their log, and nobody
+    /// could ask for a sync of them.
     pub(crate) fn rename(&mut self, from: FileName, to: FileName) -> io::Result<()>
         ensures from { IsClosed self.new.kept.files.entries from }
         ensures to { IsClosed self.new.kept.files.entries to }

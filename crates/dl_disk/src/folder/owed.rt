@@ -136,8 +136,8 @@ impl Owed {
         let _ = self.unchanged.swap_remove(&file);
     }
 
-    /// Notes that a file has another name, in the place of what had it. A sync of it that is running without the disk is then one
-    /// that failed, since its end will be noted under the old name.
+    /// Notes that a file was renamed, replacing the file that had the new name. If a sync of it is running without
+    /// the disk, that sync counts as failed, since its end will be noted under the old name.
     pub(crate) fn rename(&mut self, from: FileName, to: FileName)
         requires { 0 < spare self.old.doubtful }
         ensures others { KeepsSettled self.old self.new }
@@ -157,8 +157,8 @@ impl Owed {
 }
 
 impl Owed {
-    /// Notes that a sync of a file begins that is not waited for. One at which a sync failed, or is running so already, is refused,
-    /// as want of memory is.
+    /// Notes that a sync of a file begins that is not waited for. It is refused if a sync of the file failed or is
+    /// running so already, and if there is no memory for it.
     pub(crate) fn begin(&mut self, file: FileName) -> Result<(), AllocError>
         ensures running { OnOk result (IsTrue (is_running self.new file)) }
         ensures files { self.new.files ≡ self.old.files }

@@ -15,9 +15,9 @@ type BaseSet = IndexSet<Base, BuildHasherDefault<FoldHasher>, Global>;
 
 /// The names of a folder that may not be durable.
 ///
-/// A file that is put under a new name replaces nothing, so its name may become durable before or after those of files of other
-/// bases. So new names of many bases wait to be made durable together. A name that takes the place of a file that was moved away is
-/// none of these: without it the log would begin anew.
+/// A file that is put under a new name replaces nothing. So its name may become durable before or after those of
+/// files of other bases, and new names of many bases wait to be made durable together. This does not hold for a name
+/// that replaces that of a file which was moved away: without it the log would begin anew.
 #[derive(Drop)]
 pub(crate) struct OwedNames {
     // Whether any name may not be durable but those of new files.

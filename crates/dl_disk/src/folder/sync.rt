@@ -177,8 +177,8 @@ impl<R: Files<File = File> + AllocGlobal + Clone + Drop> Folder<R> {
         Ok(handle)
     }
 
-    /// Begins a sync of the bytes of a file that is waited for without the disk. There is none of a file that owes none, of one at
-    /// which a sync failed or is running, and where the system has no second handle of it.
+    /// Begins a sync of the bytes of a file that the caller waits for without the disk. Returns `None` if the file
+    /// owes none, if a sync of it failed or is running, and if the system has no second handle of it.
     pub(crate) fn begin_sync(&mut self, file: FileName) -> Option<Syncing>
         ensures running { IfSome result (λ syncing. (syncing.file ≡ file) × IsTrue (is_running self.new.owed file)) }
         ensures owed { self.new.owed.files ≡ self.old.owed.files }

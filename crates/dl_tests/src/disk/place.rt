@@ -26,7 +26,7 @@ impl Place {
         })
     }
 
-    // Where an entry of this name stands.
+    // The path of an entry of this name.
     pub(super) fn at(&self, name: &str) -> io::Result<PathBuf> {
         Ok(self.path.join(self.rt.alloc(), name)?)
     }
