@@ -37,6 +37,16 @@ class Gone(Error):
         super().__init__(f"the server has ended{how}" + (f": {words}" if words else ""))
 
 
+class Forked(Gone):
+    """The server is that of the process which forked this one off. It may well run on."""
+
+    def __init__(self) -> None:
+        super().__init__(None, "this process has no part in the server of the one that forked it off: it needs one of its own")
+
+    def __str__(self) -> str:
+        return self.words
+
+
 class NotStarted(Gone):
     """The server did not start, or speaks another version of the frames: `status` is None if there is no
     such program, if there are too few descriptors for it, and if it is of another version; `words` say why."""

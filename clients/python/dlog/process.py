@@ -12,7 +12,7 @@ from typing import Any, Deque, Dict, Iterator, List, Optional, Sequence, Tuple
 
 from .answers import NOTICE
 from .child import READ_BYTES, Child
-from .errors import Gone, Invalid, TimedOut
+from .errors import Forked, Gone, Invalid, TimedOut
 
 # How often a writer looks whether it has to read, so that the server goes on, while others read.
 LOOK_SECONDS = 0.05
@@ -124,7 +124,7 @@ class Process:
 
     def _be_ours(self) -> None:
         if not self.child.is_ours:
-            raise Gone(None, "it is the server of the process that forked this one")
+            raise Forked
 
     def _gone(self, may_be_done: bool) -> Gone:
         ended = self.ended or Gone(None, "its input was ended, or a call was interrupted")

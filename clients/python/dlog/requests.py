@@ -40,6 +40,10 @@ def sized(value: bytes) -> bytes:
 
 
 def item(value: bytes) -> bytes:
+    if isinstance(value, (bytearray, memoryview)):
+        value = bytes(value)
+    if not isinstance(value, bytes):
+        raise Invalid(f"an item is bytes, and this is {type(value).__name__}")
     if len(value) > ITEM_LIMIT:
         raise Invalid(f"an item of {len(value)} bytes: an item has at most {ITEM_LIMIT}")
     return sized(value)
@@ -67,9 +71,13 @@ def size(value: Size) -> bytes:
     """A size: "infinity", a number of bytes, or a pair of bytes and files."""
     if value == "infinity":
         return b"\0"
-    if isinstance(value, tuple):
-        return pack(">BQI", 2, *value)
-    return pack(">BQ", 1, value)  # type: ignore[arg-type]
+    try:
+        if isinstance(value, (tuple, list)):
+            limit, files = value
+            return struct.pack(">BQI", 2, limit, files)
+        return struct.pack(">BQ", 1, value)
+    except (struct.error, TypeError, ValueError):
+        raise Invalid(f"the size {value!r}: it is \"infinity\", a number of bytes, or a pair of bytes and files") from None
 
 
 def place(value: Optional[bytes]) -> bytes:
@@ -87,7 +95,7 @@ def choice(value: str, among: Sequence[str]) -> int:
 def opening(kind: Optional[str], size_: Optional[Size], base: Optional[str], mode: str, repair: str,
             head: Optional[bytes], notify: bool, link: str, hold: Optional[int]) -> bytes:
     """The parts of an open, after the log's name."""
-    kind = kind or ("wrap" if isinstance(size_, tuple) else "halt")
+    kind = kind or ("wrap" if isinstance(size_, (tuple, list)) else "halt")
     return b"".join((
         pack(">B", choice(kind, KINDS)),
         option(short, base),
