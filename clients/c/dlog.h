@@ -40,12 +40,25 @@ enum dlog_kind {
     DLOG_TURN = 10,
     DLOG_NO_MEMORY = 11,
     DLOG_UNSYNCED = 12,
+    DLOG_REASON = 13,
+    DLOG_LOGS = 14,
     DLOG_BAD_FRAME = 63,
     DLOG_REFUSED = 64,
     DLOG_NOTICE = 128
 };
 
-enum { DLOG_ITEM_LIMIT = 1048576, DLOG_NAME_LIMIT = 64, DLOG_PLACE_BYTES = 17 };
+/* Why a call of the device failed. */
+enum dlog_cause {
+    DLOG_BY_SYSTEM = 0,       /* the system refused it, with an error number */
+    DLOG_BY_MEMORY = 1,       /* out of memory */
+    DLOG_NOT_PLAIN = 2,       /* the file is a link, a folder or a pipe */
+    DLOG_SHORTER = 3,         /* the file is shorter than it was left */
+    DLOG_EARLIER_SYNC = 4,    /* an earlier sync of the file failed */
+    DLOG_WITHOUT_REASON = 5   /* the system gave no reason */
+};
+
+enum { DLOG_ITEM_LIMIT = 1048576, DLOG_NAME_LIMIT = 64, DLOG_PLACE_BYTES = 17,
+       DLOG_FILE_LIMIT = DLOG_NAME_LIMIT + 11 };
 
 /* Some bytes. */
 struct dlog_bytes {
@@ -158,6 +171,8 @@ int dlog_sync(struct dlog *dlog, uint32_t client, const char *name, struct dlog_
  * still waits to be written. So name the logs that matter. */
 int dlog_sync_all(struct dlog *dlog, uint32_t client, const char *const *names, uint32_t count,
                   struct dlog_answer *answer);
+/* Which logs are open, whoever opened them. The answer is DLOG_LOGS and has their names (`dlog_names`). */
+int dlog_logs(struct dlog *dlog, struct dlog_answer *answer);
 int dlog_close(struct dlog *dlog, uint32_t client, const char *name, struct dlog_answer *answer);
 int dlog_block(struct dlog *dlog, uint32_t client, const char *name, int queue,
                struct dlog_answer *answer);
@@ -209,5 +224,31 @@ struct dlog_unsynced {
 int dlog_unsynced(const struct dlog_answer *answer, struct dlog_unsynced *unsynced);
 int dlog_next_unsynced(struct dlog_unsynced *unsynced, char name[DLOG_NAME_LIMIT + 1],
                        struct dlog_answer *its);
+
+/* Takes the names of an answer of the kind DLOG_LOGS: how many are left first, and then one at a time, in the
+ * order of opening, until it returns 1. */
+struct dlog_names {
+    const uint8_t *at;
+    size_t length;
+    uint32_t left;
+};
+int dlog_names(const struct dlog_answer *answer, struct dlog_names *names);
+int dlog_next_name(struct dlog_names *names, char name[DLOG_NAME_LIMIT + 1]);
+
+/* Why the device failed: the file, one of `enum dlog_cause`, and the system's error number, as of `strerror`,
+ * which is 0 if the system refused nothing. */
+struct dlog_reason {
+    char file[DLOG_FILE_LIMIT + 1];
+    int cause;
+    int32_t number;
+};
+
+/* The words of a reason. They stand until the next call of `strerror`. */
+const char *dlog_reason_words(const struct dlog_reason *reason);
+
+/* Asks why the device failed, right after an answer of the kind DLOG_REFUSED + 24, which is `refused`, or one
+ * that `dlog_next_unsynced` has taken. Its parts stand no longer then. Returns 1 if the server does not know, or
+ * a call on another file has failed since. */
+int dlog_reason(struct dlog *dlog, const struct dlog_answer *refused, struct dlog_reason *reason);
 
 #endif

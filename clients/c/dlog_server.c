@@ -12,7 +12,7 @@
 #include <time.h>
 #include <unistd.h>
 
-enum { OP_HELLO = 0, VERSION = 3, NOT_STARTED = 127, TRY_AGAIN = 50 /* milliseconds */ };
+enum { OP_HELLO = 0, VERSION = 4, NOT_STARTED = 127, TRY_AGAIN = 50 /* milliseconds */ };
 
 /* ---- the start */
 

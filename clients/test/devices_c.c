@@ -1,6 +1,7 @@
 /* Scenarios of programs that are no server of this version, and of devices that are full, by the C client. */
 #include "test_c.h"
 
+#include <errno.h>
 #include <sys/stat.h>
 
 enum { MANY = 1000 };
@@ -46,6 +47,7 @@ static int fill(struct dlog *dlog, const char *name)
 
     for (int taken = 0;; taken++) {
         struct dlog_answer answer;
+        struct dlog_reason reason;
 
         CHECK(taken < MANY && dlog_log(dlog, 1, name, &item, 1, &answer) == 0);
         if (answer.kind == DLOG_DONE)
@@ -54,6 +56,8 @@ static int fill(struct dlog *dlog, const char *name)
             continue;
         CHECK(answer.kind == DLOG_REFUSED + 24);
         CHECK(answer.length == 2 + strlen(name) && memcmp(answer.parts + 1, name, strlen(name)) == 0);
+        CHECK(dlog_reason(dlog, &answer, &reason) == 0 && reason.cause == DLOG_BY_SYSTEM && reason.number == EFBIG);
+        CHECK(strcmp(reason.file, "a.log") == 0 && strcmp(dlog_reason_words(&reason), strerror(EFBIG)) == 0);
         return taken;
     }
 }
@@ -82,6 +86,8 @@ static void one_call(const char *parent)
     struct dlog_answer answer, its;
     struct dlog_bytes item = { zeros, sizeof zeros };
     struct dlog_unsynced left;
+    struct dlog_reason reason;
+    struct dlog_names open;
     char folder[4096], name[DLOG_NAME_LIMIT + 1];
 
     make(folder, parent, "all");
@@ -95,6 +101,11 @@ static void one_call(const char *parent)
     CHECK(dlog_next_unsynced(&left, name, &its) == 0 && strcmp(name, "a") == 0 && its.kind == DLOG_REFUSED + 24);
     CHECK(its.length == 3 && memcmp(its.parts, "\1a\0", 3) == 0);
     CHECK(dlog_next_unsynced(&left, name, &its) == 1);
+    CHECK(dlog_reason(&dlog, &its, &reason) == 0 && strcmp(reason.file, "a.log") == 0 && reason.number == EFBIG);
+    CHECK(dlog_reason(&dlog, &answer, &reason) == DLOG_INVALID);
+    CHECK(dlog_logs(&dlog, &answer) == 0 && dlog_names(&answer, &open) == 0 && open.left == 2);
+    CHECK(dlog_next_name(&open, name) == 0 && strcmp(name, "a") == 0);
+    CHECK(dlog_next_name(&open, name) == 0 && strcmp(name, "b") == 0 && dlog_next_name(&open, name) == 1);
     CHECK(dlog_sync_all(&dlog, 1, wrong, 1, &answer) == DLOG_INVALID);
     give_room(&dlog);
     CHECK(dlog_sync_all(&dlog, 1, NULL, 0, &answer) == 0 && dlog_unsynced(&answer, &left) == 0 && left.left == 0);

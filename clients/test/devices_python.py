@@ -1,4 +1,5 @@
 """Scenarios of programs that are no server of this version, and of devices that are full, by the Python client."""
+import errno
 import os
 import resource
 import signal
@@ -31,6 +32,9 @@ def limited(program, room):
     return full
 
 
+TOO_LARGE = os.strerror(errno.EFBIG)
+
+
 def give_room(process):
     resource.prlimit(process, resource.RLIMIT_FSIZE, (resource.RLIM_INFINITY, resource.RLIM_INFINITY))
 
@@ -50,6 +54,8 @@ def a_full_device_is_an_error_until_it_has_room(program, folder):
     for _ in range(2):
         full = raised(dlog.Refused, fill)
         assert (full.number, full.name, full.parts) == (24, "device_fault", ("a.log",)), full
+        assert full.reason == ("a.log", TOO_LARGE, errno.EFBIG), full.reason
+        assert str(full) == f"E24 device_fault a.log: {TOO_LARGE}", full
     other.log(b"has room")
     other.sync()
     give_room(server.pid)
@@ -71,7 +77,8 @@ def many_logs_are_synced_by_one_call(program, folder):
     log.log(b"x" * 10_000)
     other.log(b"has room")
     left = raised(dlog.NotSynced, client.sync_all).logs
-    assert [(name, str(why)) for name, why in left] == [("a", "E24 device_fault a.log")], left
+    assert [(name, str(why)) for name, why in left] == [("a", f"E24 device_fault a.log: {TOO_LARGE}")], left
+    assert server.logs() == ["a", "b"], server.logs()
     left = raised(dlog.NotSynced, client.sync_all, "missing", "b", "a")
     assert [(name, why.number) for name, why in left.logs] == [("missing", 2), ("a", 24)], left
     raised(dlog.Invalid, client.sync_all, "a b")

@@ -2,7 +2,7 @@
 
 use crate::ends::end_of;
 use crate::{all, Outcome, Place};
-use dlog::{Error, Log, Options, Refused, Reply, Server, Settings};
+use dlog::{Cause, Error, Log, Options, Refused, Reply, Server, Settings};
 use std::fs;
 use std::os::unix::fs::PermissionsExt;
 use std::path::PathBuf;
@@ -64,7 +64,11 @@ fn a_full_device_is_an_error_until_it_has_room(place: &Place) -> Outcome {
     server.open(&log, &Options::default())?;
     server.open(&other, &Options::default())?;
     let (taken, refused) = fill(&server, &log);
-    assert_eq!(refused, Refused::File(24, "a.log".to_owned()));
+    let fault = Refused::Device {
+        file: "a.log".to_owned(),
+        cause: Some(Cause::System(27)), // EFBIG
+    };
+    assert_eq!(refused, fault);
     assert_eq!(fill(&server, &log), (0, refused));
     server.log(&other, &["has room"])?;
     server.sync(&other)?;
@@ -96,8 +100,12 @@ fn many_logs_are_synced_by_one_call(place: &Place) -> Outcome {
         .collect();
     assert_eq!(
         said,
-        ["missing: E2 no_such_log", "a: E24 device_fault a.log"]
+        [
+            "missing: E2 no_such_log",
+            "a: E24 device_fault a.log: File too large (os error 27)"
+        ]
     );
+    assert_eq!(server.logs()?, ["a", "b"]);
     assert!(matches!(
         server.sync_all(1, &["a b"]),
         Err(Error::Invalid(_))

@@ -244,6 +244,8 @@ at_once(File) ->
     [ok, ok] = [dlog:blog(a, binary:copy(<<"x">>, 10000)), dlog:blog(b, <<"has room">>)],
     Full = filename:absname(File("a")) ++ ".log",
     {error, {not_synced, [{a, {file_error, Full, eio}}]}} = dlog:sync_all(),
+    {file_error, Full, efbig} = dlog:reason(a),
+    {{[a, b], []}, {error, no_such_log}} = {dlog:accessible_logs(), dlog:reason(missing)},
     {error, {not_synced, [{a, {file_error, Full, eio}}, {missing, no_such_log}]}} = dlog:sync_all([a, b, missing, a]),
     {error, {not_synced, [{missing, no_such_log}, {a, {file_error, Full, eio}}]}} = dlog:sync_all([missing, b, a]),
     [Program] = programs(),
@@ -254,7 +256,9 @@ at_once(File) ->
 full(File) ->
     open_limited(File, 1, [a, b]),
     Full = filename:absname(File("a")) ++ ".log",
+    none = dlog:reason(a),
     {Taken, {file_error, Full, eio}} = fill(a, 0),
+    {file_error, Full, efbig} = dlog:reason(a),
     {0, {file_error, Full, eio}} = fill(a, 0),
     [ok, ok] = [dlog:blog(b, <<"has room">>), dlog:sync(b)],
     [Program] = programs(),

@@ -49,7 +49,7 @@ def check(texts, what):
     for text in said:
         kind = text[4]
         known = text[:4] in tags or text[:4] in (b"\0\0\0\0", b"\xff\xff\xff\xfe")
-        assert known and (kind <= 12 or kind == 63 or 64 < kind < 90 or kind == 128), (what, text)
+        assert known and (kind <= 14 or kind == 63 or 64 < kind < 90 or kind == 128), (what, text)
     wrong = [text for text in said if text[4] == 63]
     for text in wrong:
         assert len(text) == 9, (what, text)

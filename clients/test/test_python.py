@@ -27,7 +27,7 @@ def refusal(call, *arguments):
 
 def items_come_back_in_order(folder):
     with serve(folder) as server:
-        assert server.hello == (3, 16777216, 1024, "dlog"), server.hello
+        assert server.hello == (4, 16777216, 1024, "dlog"), server.hello
         log = server.client(1).open("words")
         log.log(b"first", b"second", b"")
         assert list(log) == [b"first", b"second", b""]

@@ -10,7 +10,7 @@ import subprocess
 import sys
 
 PROGRAM, ROOM = sys.argv[1:3]
-OPENED, DONE, WELCOME, TURN, UNSYNCED, WRONG = 1, 3, 0, 10, 12, 63
+OPENED, DONE, WELCOME, TURN, UNSYNCED, REASON, LOGS, WRONG = 1, 3, 0, 10, 12, 13, 14, 63
 
 
 def frame(text):
@@ -106,7 +106,8 @@ def main():
         for client in (1, 2, 3)), begun + [(tag, DONE) for tag in (10, 11, 12, 20, 13, 21, 22, 30, 23, 31, 32, 33)])
     for what, text, kind in (("hello", b"\x00\x00\x02", WELCOME), ("flush", b"\x10", TURN),
                              ("flush all", b"\x11", TURN), ("no request", b"\x3f", WRONG),
-                             ("sync all", b"\x12" + bytes(8), UNSYNCED)):
+                             ("sync all", b"\x12" + bytes(8), UNSYNCED),
+                             ("reason", b"\x13", REASON), ("logs", b"\x14", LOGS)):
         stream = opened() + sync(51, 1) + sync(52, 2) + frame(struct.pack(">I", 53) + text) + log(54, 3)
         check(what, stream, begun + [(51, DONE), (52, DONE), (53, kind), (54, DONE)])
     check("exit", opened() + sync(61, 2) + frame(struct.pack(">IBI", 62, 15, 1)) + log(63, 3),

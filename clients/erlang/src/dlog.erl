@@ -1,7 +1,7 @@
 %% The calls of disk_log, over `dlog serve`.
 -module(dlog).
 
--export([open/1, close/1, lclose/1, lclose/2, all/0, accessible_logs/0, pid2name/1, info/1, sync/1, sync_all/0, sync_all/1, format_error/1, stop/0, stop/1]).
+-export([open/1, close/1, lclose/1, lclose/2, all/0, accessible_logs/0, pid2name/1, info/1, reason/1, sync/1, sync_all/0, sync_all/1, format_error/1, stop/0, stop/1]).
 -export([log/2, log_terms/2, alog/2, alog_terms/2, blog/2, blog_terms/2, balog/2, balog_terms/2]).
 -export([chunk/2, chunk/3, bchunk/2, bchunk/3, chunk_step/3, chunk_info/1]).
 -export([truncate/1, truncate/2, btruncate/2, reopen/2, reopen/3, breopen/3, inc_wrap_file/1, change_size/2, change_notify/3]).
@@ -55,8 +55,8 @@ opened(Said, Log, #{file := File} = Given) ->
     case Said of
         opened -> {ok, Log};
         {repaired, Kept, Bad} -> {repaired, Log, {recovered, Kept}, {badbytes, Bad}};
-        {refused, 4, head} -> {error, {arg_mismatch, head, head_of(Log), maps:get(head, Given)}};
-        {refused, 4, hold} -> {error, {arg_mismatch, hold, hold_of(Log), maps:get(hold, Given)}};
+        {refused, 4, head} -> {error, {arg_mismatch, head, info(Log, head), maps:get(head, Given)}};
+        {refused, 4, hold} -> {error, {arg_mismatch, hold, info(Log, hold), maps:get(hold, Given)}};
         {refused, 4, repair} -> {error, {arg_mismatch, repair, true, maps:get(repair, Given)}};
         {refused, 5, {Old, New}} -> {error, {size_mismatch, dlog_options:from_wire(Old), dlog_options:from_wire(New)}};
         {refused, 9, none} -> {error, {file_error, File, enoent}};
@@ -95,6 +95,11 @@ sync_all(Logs) ->
         Reasons -> {error, {not_synced, Reasons}}
     end.
 
+%% Why the device failed, asked right after {error, {file_error, File, eio}}: {file_error, File, Cause}, with the posix error in place
+%% of eio. It is the cause of that error if it has the same file. disk_log has no such call: its errors have the posix error at once.
+-spec reason(log()) -> none | {file_error, file:filename(), dlog_reason:cause()} | {error, term()}.
+reason(Log) -> dlog_reason:known(Log, dlog_port:reason(Log)).
+
 %% Closes all logs and ends the servers. An error has the folders of which something could not be written.
 -spec stop() -> ok | {error, {not_written, [file:filename()]}}.
 stop() -> stop(infinity).
@@ -111,7 +116,7 @@ stop(Timeout) ->
 all() -> lists:sort(dlog_port:all()).
 
 -spec accessible_logs() -> {[log()], []}.
-accessible_logs() -> {all(), []}.
+accessible_logs() -> {lists:sort(dlog_port:open_logs()), []}.
 
 %% A log is no process.
 -spec pid2name(pid()) -> undefined.
@@ -283,11 +288,8 @@ info(Log) ->
             dlog_reason:answer(Log, Said)
     end.
 
-hold_of(Log) ->
-    case lists:keyfind(hold, 1, info(Log)) of {hold, Blocks} -> Blocks; false -> none end.
-
-head_of(Log) ->
-    case lists:keyfind(head, 1, info(Log)) of {head, Head} -> Head; false -> none end.
+info(Log, Key) ->
+    case lists:keyfind(Key, 1, info(Log)) of {Key, Value} -> Value; false -> none end.
 
 call(Log, Number, Parts) ->
     dlog_reason:answer(Log, dlog_port:call(Log, Number, Parts)).

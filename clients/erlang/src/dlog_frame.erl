@@ -70,6 +70,9 @@ said(9, Parts) -> {info, info(Parts)};
 said(10, <<What, _/binary>>) -> {turn, element(What + 1, {drained, idle, fault})};
 said(11, <<>>) -> no_memory;
 said(12, <<Count:32, Rest/binary>>) -> {unsynced, unsynced(Count, Rest)};
+said(13, <<0>>) -> {reason, none};
+said(13, <<1, Parts/binary>>) -> {reason, cause(file(take_text(Parts)))};
+said(14, <<Count:32, Rest/binary>>) -> {logs, texts_in(Count, Rest)};
 said(63, <<Place:32>>) -> {no_request, Place};
 said(Kind, Parts) when Kind > 64 ->
     {Refused, <<>>} = refusal(Kind, Parts),
@@ -106,6 +109,10 @@ file({Base, <<0, Rest/binary>>}) -> {<<Base/binary, ".log">>, Rest};
 file({Base, <<1, Rest/binary>>}) -> {<<Base/binary, ".idx">>, Rest};
 file({Base, <<2, File:32, Rest/binary>>}) -> {<<Base/binary, $., (integer_to_binary(File))/binary>>, Rest}.
 
+%% Why the device failed: the file, and the cause.
+cause({File, <<0, Number:32/signed>>}) -> {File, {errno, Number}};
+cause({File, <<Cause, _:32>>}) -> {File, element(Cause, {enomem, not_plain, shorter, earlier_sync, unknown})}.
+
 notice(<<0, Lost:64>>) -> {wrap, Lost};
 notice(<<1, Lost:64>>) -> {truncated, Lost};
 notice(<<2>>) -> full;
@@ -141,6 +148,11 @@ writing(Head, <<Written:64, 1, Bytes:64, Items:64, All:64, File:32, Open:64, Inf
 
 hold(<<0>>) -> none;
 hold(<<1, Blocks:32>>) -> Blocks.
+
+texts_in(0, <<>>) -> [];
+texts_in(Count, Rest) ->
+    {Text, Others} = take_text(Rest),
+    [Text | texts_in(Count - 1, Others)].
 
 take_text(<<Length, Text:Length/binary, Rest/binary>>) -> {Text, Rest}.
 

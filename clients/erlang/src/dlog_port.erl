@@ -3,7 +3,7 @@
 -module(dlog_port).
 -behaviour(gen_server).
 
--export([find/1, all/0, open/3, call/3, send/3, sync_all/1, resized/2, keep/2, notify/2, stop/1]).
+-export([find/1, all/0, open_logs/0, reason/1, open/3, call/3, send/3, sync_all/1, resized/2, keep/2, notify/2, stop/1]).
 -export([init/1, handle_call/3, handle_cast/2, handle_info/2]).
 
 -export_type([log/0]).
@@ -30,6 +30,21 @@ find(Log) ->
 -spec all() -> [term()].
 all() ->
     try ets:select(dlog_logs, [{{'$1', '_', '_'}, [], ['$1']}]) catch error:badarg -> [] end.
+
+%% The logs that the servers have open.
+-spec open_logs() -> [term()].
+open_logs() ->
+    Known = [{Server, Wire, Log} || Log <- all(), {ok, #{server := Server, wire := Wire}} <- [find(Log)]],
+    Open = [{Server, Wire} || Server <- lists:usort([Its || {Its, _, _} <- Known]), {logs, Wires} <- [ask(Server, logs, infinity)], Wire <- Wires],
+    [Log || {Server, Wire, Log} <- Known, lists:member({Server, Wire}, Open)].
+
+%% Why the last call of the device that failed did, of the folder of a log.
+-spec reason(term()) -> {reason, none | {binary(), term()}} | {refused, 2, none} | failure().
+reason(Log) ->
+    case find(Log) of
+        {ok, #{server := Server, timeout := Timeout}} -> ask(Server, reason, Timeout);
+        error -> {refused, 2, none}
+    end.
 
 %% Notes what is known of a log now, or, if nobody has a part in it, that it is closed.
 -spec keep(term(), log()) -> true.

@@ -1,7 +1,12 @@
 %% What the server says, in the words of disk_log.
 -module(dlog_reason).
 
--export([answer/2, told/2, restarted/2]).
+-export([answer/2, known/2, told/2, restarted/2]).
+
+-export_type([cause/0]).
+
+%% Why the device failed: a posix error of the system, its number if it has no name here, or not_plain, shorter, earlier_sync or unknown.
+-type cause() :: atom() | {errno, integer()}.
 
 -spec answer(term(), term()) -> ok | {error, term()}.
 answer(_, done) -> ok;
@@ -35,8 +40,33 @@ reason(Log, 20, _) -> {same_file_name, Log};
 reason(_, 21, _) -> stale_continuation;
 reason(_, 22, _) -> end_of_log;
 reason(Log, 23, File) -> {corrupt_log_file, file_of(Log, File)};
-reason(Log, 24, File) -> {file_error, path_of(Log, binary_to_list(File)), eio};
+reason(Log, 24, File) -> fault(Log, File, eio);
 reason(_, 25, _) -> exhausted.
+
+%% Why the device failed, as the server knows it.
+-spec known(term(), term()) -> none | {file_error, file:filename(), cause()} | {error, term()}.
+known(_, {reason, none}) -> none;
+known(Log, {reason, {File, Cause}}) -> fault(Log, File, Cause);
+known(Log, Said) -> answer(Log, Said).
+
+fault(Log, File, Cause) -> {file_error, path_of(Log, binary_to_list(File)), posix(Cause)}.
+
+%% The name that file:format_error/1 knows of an error number of the system.
+posix({errno, 1}) -> eperm;
+posix({errno, 2}) -> enoent;
+posix({errno, 5}) -> eio;
+posix({errno, 12}) -> enomem;
+posix({errno, 13}) -> eacces;
+posix({errno, 20}) -> enotdir;
+posix({errno, 21}) -> eisdir;
+posix({errno, 23}) -> enfile;
+posix({errno, 24}) -> emfile;
+posix({errno, 27}) -> efbig;
+posix({errno, 28}) -> enospc;
+posix({errno, 30}) -> erofs;
+posix({errno, 36}) -> enametoolong;
+posix({errno, 122}) -> edquot;
+posix(Other) -> Other.
 
 file_of(Log, File) ->
     {ok, #{file := Name, type := Type}} = dlog_port:find(Log),

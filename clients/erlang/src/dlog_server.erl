@@ -8,13 +8,15 @@
 
 -define(FLUSH_AFTER, 2000).
 -define(TRY_AGAIN, 50).
--define(VERSION, 3).
+-define(VERSION, 4).
 -define(HELLO, 0).
 -define(OPEN, 1).
 -define(CLOSE, 14).
 -define(EXIT, 15).
 -define(FLUSH_ALL, 17).
 -define(SYNC_ALL, 18).
+-define(REASON, 19).
+-define(LOGS, 20).
 
 %% What becomes of the logs' names by an answer: none, or the name of a log that is closed.
 -type change() :: none | {closed, binary()}.
@@ -128,6 +130,10 @@ handle_call({call, Wire, Number, Text}, {Pid, _} = From, State) ->
 handle_call({sync_all, Names}, {Pid, _} = From, State) ->
     {Client, Known} = client_of(Pid, State),
     sent(request(?SYNC_ALL, [<<Client:32>>, Names], {From, fun none/1}, Known));
+handle_call(reason, From, State) ->
+    sent(request(?REASON, [], {From, fun none/1}, State));
+handle_call(logs, From, State) ->
+    sent(request(?LOGS, [], {From, fun none/1}, State));
 handle_call(leave, From, #state{clients = Clients} = State) ->
     Left = lists:foldl(fun({Client, _}, Next) -> write(0, ?EXIT, <<Client:32>>, Next) end, State, maps:values(Clients)),
     sent(request(?FLUSH_ALL, [], {From, fun none/1}, Left)).

@@ -8,7 +8,7 @@
             print(item)
 """
 from .answers import Chunk, Held, Hello, Info, Notice, Repaired, Turn
-from .errors import (BadFrame, Error, Gone, Invalid, NoMemory, NotStarted, NotSynced, Refused,
+from .errors import (BadFrame, Error, Gone, Invalid, NoMemory, NotStarted, NotSynced, Reason, Refused,
                      Suspended, TimedOut)
 from .logs import Client, Log
 from .requests import ITEM_LIMIT, VERSION
@@ -16,6 +16,6 @@ from .server import Reopened, Server
 
 __all__ = (
     "BadFrame", "Chunk", "Client", "Error", "Gone", "Held", "Hello", "ITEM_LIMIT", "Info", "Invalid",
-    "Log", "NoMemory", "NotStarted", "NotSynced", "Notice", "Refused", "Reopened", "Repaired", "Server",
-    "Suspended", "TimedOut", "Turn", "VERSION",
+    "Log", "NoMemory", "NotStarted", "NotSynced", "Notice", "Reason", "Refused", "Reopened", "Repaired",
+    "Server", "Suspended", "TimedOut", "Turn", "VERSION",
 )

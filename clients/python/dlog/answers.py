@@ -1,14 +1,20 @@
 """Answers and notices, as they are read."""
 from __future__ import annotations
 
+import os
 import struct
 from typing import Callable, Dict, List, NamedTuple, Optional, Tuple, TypeVar, Union
 
-from .errors import BadFrame, Error, NoMemory, NotSynced, Refused, Suspended
+from .errors import BadFrame, Error, NoMemory, NotSynced, Reason, Refused, Suspended
 from .requests import KINDS, MODES, Size
 
 ARGUMENTS = (
     "kind", "size", "repair", "head", "items", "item", "count", "continuation", "blocks", "hold",
+)
+# Why the device failed, but for what the system refused.
+CAUSES = (
+    "", "out of memory", "it is a link, a folder or a pipe, and no plain file",
+    "it is shorter than it was left", "an earlier sync of it failed", "the system gave no reason",
 )
 NOTICE = 128
 Part = TypeVar("Part")
@@ -136,6 +142,10 @@ class Reader:
             parts = ()
         return Refused(number, parts)
 
+    def reason(self) -> Reason:
+        file, cause, number = self.file(), self.u8(), self.number(">i")
+        return Reason(file, CAUSES[cause] or os.strerror(number), number)
+
     def owner(self) -> Tuple[int, bool]:
         return self.u32(), bool(self.u8())
 
@@ -205,6 +215,10 @@ class Reader:
         if kind == 12:
             logs = [self.not_synced() for _ in range(self.u32())]
             return NotSynced(logs) if logs else None
+        if kind == 13:
+            return self.option(self.reason)
+        if kind == 14:
+            return [self.short() for _ in range(self.u32())]
         return None
 
 

@@ -1,7 +1,7 @@
 """What keeps a call from its answer."""
 from __future__ import annotations
 
-from typing import List, Optional, Tuple
+from typing import List, NamedTuple, Optional, Tuple
 
 REFUSALS = (
     "", "bad_arg", "no_such_log", "name_already_open", "arg_mismatch", "size_mismatch",
@@ -64,7 +64,10 @@ class NotSynced(Error):
 
     def __init__(self, logs: List[Tuple[str, Error]]) -> None:
         self.logs = logs
-        super().__init__("not on the device: " + "; ".join(f"{log}: {why}" for log, why in logs))
+        super().__init__(logs)
+
+    def __str__(self) -> str:
+        return "not on the device: " + "; ".join(f"{log}: {why}" for log, why in self.logs)
 
 
 class BadFrame(Error):
@@ -75,12 +78,26 @@ class BadFrame(Error):
         self.place = place
 
 
+class Reason(NamedTuple):
+    """Why a call of the device failed: the file, the cause in words, and the system's error number, which is 0
+    if the system refused nothing."""
+    file: str
+    cause: str
+    errno: int
+
+
 class Refused(Error):
-    """The server refused a call; `number` and `name` say why, and `parts` what they speak of."""
+    """The server refused a call; `number` and `name` say why, and `parts` what they speak of. Of E24
+    `reason` is why the device failed, or None if the server does not know."""
 
     def __init__(self, number: int, parts: Tuple[object, ...]) -> None:
         self.number = number
         self.name = REFUSALS[number]
         self.parts = parts
+        self.reason: Optional[Reason] = None
         words = (f"E{number}", self.name) + tuple(str(part) for part in parts)
         super().__init__(" ".join(words))
+
+    def __str__(self) -> str:
+        words = str(self.args[0])
+        return words if self.reason is None else f"{words}: {self.reason.cause}"

@@ -7,7 +7,7 @@ from typing import Any, Callable, Optional, Sequence, Tuple, Union
 
 from .errors import Invalid
 
-VERSION = 3
+VERSION = 4
 ITEM_LIMIT = 1_048_576
 NAME = re.compile(r"[A-Za-z0-9_-]{1,64}\Z")
 PLACE_BYTES = 17

@@ -11,7 +11,7 @@ from typing import List, NamedTuple, Optional, Sequence, Tuple, Type, Union, cas
 
 from . import requests
 from .answers import Hello, Notice, Repaired, Turn, notice_of, value_of
-from .errors import Error, Gone, NotStarted
+from .errors import Error, Gone, NotStarted, NotSynced, Reason, Refused
 from .logs import Client, Opening
 from .process import Process, deadline_in
 
@@ -20,6 +20,8 @@ TRY_AGAIN_SECONDS = 0.05
 FIRST_NUMBER = 2**31
 # Of how many servers that have ended calls are known that were sent and not awaited.
 KEPT_ENDS = 4
+# The number of the refusal after a fault of the device.
+DEVICE_FAULT = 24
 
 
 class Reopened(NamedTuple):
@@ -149,11 +151,15 @@ class Server:
         """Writes all that waits."""
         return cast(Turn, self.call(17, b""))
 
+    def logs(self) -> List[str]:
+        """The names of the logs that are open, whoever opened them, in the order of opening."""
+        return cast(List[str], self.call(20, b""))
+
     def call(self, op: int, parts: bytes) -> object:
         """Makes one request, and waits for its answer."""
         deadline = deadline_in(self.timeout)
         process = self._process
-        return value_of(process.answer(process.send(op, parts, deadline), deadline))
+        return _value_of(process, process.send(op, parts, deadline), deadline)
 
     def send(self, op: int, parts: bytes) -> int:
         """Sends one request, and returns its tag, for `answer`."""
@@ -164,7 +170,7 @@ class Server:
         deadline = deadline_in(self.timeout if timeout is None else timeout)
         servers = [self._process, *self._ended]
         process = next((it for it in servers if it.awaits(tag)), self._process)
-        return value_of(process.answer(tag, deadline))
+        return _value_of(process, tag, deadline)
 
     def call_all(self, calls: Sequence[Tuple[int, bytes]]) -> None:
         """Makes requests that are sent together, to the same server, and waits for all answers. Raises what
@@ -173,7 +179,7 @@ class Server:
         tags = process.send_all(calls, deadline)
         try:
             while tags:
-                value_of(process.answer(tags.pop(0), deadline))
+                _value_of(process, tags.pop(0), deadline)
         finally:
             process.forget(tags)
 
@@ -183,3 +189,24 @@ class Server:
     def _say_hello(self) -> Hello:
         """What the server says of itself. It changes nothing."""
         return cast(Hello, self.call(0, requests.pack(">H", requests.VERSION)))
+
+
+def _value_of(process: Process, tag: int, deadline: Optional[float]) -> object:
+    """The value of an answer. Raises what it stands for if it is none, with the reason of a fault of the device."""
+    try:
+        return value_of(process.answer(tag, deadline))
+    except (NotSynced, Refused) as error:
+        met = [why for _, why in error.logs] if isinstance(error, NotSynced) else [error]
+        faults = [why for why in met if isinstance(why, Refused) and why.number == DEVICE_FAULT]
+        reason = _reason(process, deadline) if faults else None
+        for fault in faults:
+            fault.reason = reason if reason and fault.parts == (reason.file,) else None
+        raise
+
+
+def _reason(process: Process, deadline: Optional[float]) -> Optional[Reason]:
+    """Why the last call of the device that failed did, or None if the server does not know or cannot be asked."""
+    try:
+        return cast(Optional[Reason], value_of(process.answer(process.send(19, b"", deadline), deadline)))
+    except Error:
+        return None

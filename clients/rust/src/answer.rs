@@ -1,6 +1,6 @@
 //! Answers and notices.
 
-use crate::error::{Error, Refused};
+use crate::error::{Error, Reason, Refused};
 use crate::parts::{Mode, Size};
 
 /// A place in a log, as an answer gave it. Its bytes may be kept, and given to a later server.
@@ -57,6 +57,9 @@ pub enum Reply {
     NoMemory,
     /// To a sync of many logs: those that are not on the device, and what each of their syncs was answered.
     Unsynced(Vec<(String, Reply)>),
+    /// Why the last call of the device that failed did, if that is known.
+    Reason(Option<Reason>),
+    Logs(Vec<String>),
     NoRequest(u32),
     Refused(Refused),
 }

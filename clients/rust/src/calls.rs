@@ -5,7 +5,7 @@ use crate::{Error, Info, Items, Log, Notice, Options, Place, Reply, Server, Size
 use std::collections::VecDeque;
 
 /// The version of the frames that is spoken here.
-pub(crate) const VERSION: u16 = 3;
+pub(crate) const VERSION: u16 = 4;
 
 impl Server {
     /// Opens a log. What it says is `Opened` or `Repaired`.
@@ -140,6 +140,14 @@ impl Server {
     /// Writes all that waits.
     pub fn flush_all(&self) -> Result<Reply, Error> {
         self.ask(17, |_| {})
+    }
+
+    /// The names of the logs that are open, whoever opened them, in the order of opening.
+    pub fn logs(&self) -> Result<Vec<String>, Error> {
+        match self.ask(20, |_| {})? {
+            Reply::Logs(names) => Ok(names),
+            _ => Err(Error::Form),
+        }
     }
 
     /// What the server says of itself. It changes nothing.

@@ -35,6 +35,42 @@ const REFUSALS: [&str; 26] = [
     "exhausted",
 ];
 
+/// Why a call of the device failed.
+#[derive(Clone, Copy, Debug, PartialEq, Eq)]
+pub enum Cause {
+    /// The system refused it, with this error number.
+    System(i32),
+    OutOfMemory,
+    /// The file is a link, a folder or a pipe.
+    NotPlain,
+    /// The file is shorter than it was left.
+    Shorter,
+    /// An earlier sync of the file failed.
+    Lost,
+    /// The system gave no reason.
+    Other,
+}
+
+impl fmt::Display for Cause {
+    fn fmt(&self, out: &mut fmt::Formatter<'_>) -> fmt::Result {
+        match self {
+            Cause::System(number) => write!(out, "{}", io::Error::from_raw_os_error(*number)),
+            Cause::OutOfMemory => write!(out, "out of memory"),
+            Cause::NotPlain => write!(out, "it is a link, a folder or a pipe, and no plain file"),
+            Cause::Shorter => write!(out, "it is shorter than it was left"),
+            Cause::Lost => write!(out, "an earlier sync of it failed"),
+            Cause::Other => write!(out, "the system gave no reason"),
+        }
+    }
+}
+
+/// Why the last call of the device that failed did, and on which file.
+#[derive(Clone, Debug, PartialEq, Eq)]
+pub struct Reason {
+    pub file: String,
+    pub cause: Cause,
+}
+
 /// Why the server refused a call, by the number that docs/SCRIPTS.md has for it, and what it speaks of.
 #[derive(Clone, Debug, PartialEq, Eq)]
 pub enum Refused {
@@ -48,8 +84,13 @@ pub enum Refused {
     },
     /// 8: the log that has the base.
     Log(String),
-    /// 10, 24: a file.
+    /// 10: a file.
     File(u8, String),
+    /// 24: a file, and why the device failed, if the server knows.
+    Device {
+        file: String,
+        cause: Option<Cause>,
+    },
     /// 19: the bytes that the log has.
     Bytes(u64),
     /// 23: the number of a file.
@@ -65,6 +106,7 @@ impl Refused {
             Refused::Sizes { .. } => 5,
             Refused::Log(_) => 8,
             Refused::Bytes(_) => 19,
+            Refused::Device { .. } => 24,
             Refused::Number(_) => 23,
         }
     }
@@ -81,6 +123,11 @@ impl fmt::Display for Refused {
             Refused::Sizes { old, new } => write!(out, " {old} {new}"),
             Refused::Log(of) | Refused::File(_, of) => write!(out, " {of}"),
             Refused::Bytes(bytes) => write!(out, " {bytes}"),
+            Refused::Device { file, cause: None } => write!(out, " {file}"),
+            Refused::Device {
+                file,
+                cause: Some(cause),
+            } => write!(out, " {file}: {cause}"),
             Refused::Number(file) => write!(out, " {file}"),
         }
     }
@@ -124,6 +171,28 @@ pub enum Error {
     Version(u16),
     /// The program, which the error names, could not be started.
     Start(io::Error),
+}
+
+impl Error {
+    /// Whether the device failed.
+    pub(crate) fn is_fault(&self) -> bool {
+        match self {
+            Error::Refused(Refused::Device { .. }) => true,
+            Error::Unsynced(logs) => logs.iter().any(|(_, why)| why.is_fault()),
+            _ => false,
+        }
+    }
+
+    /// Notes the reason of the last fault at each fault of its file.
+    pub(crate) fn note(&mut self, known: &Reason) {
+        match self {
+            Error::Refused(Refused::Device { file, cause }) if *file == known.file => {
+                *cause = Some(known.cause)
+            }
+            Error::Unsynced(logs) => logs.iter_mut().for_each(|(_, why)| why.note(known)),
+            _ => {}
+        }
+    }
 }
 
 impl From<io::Error> for Error {

@@ -26,7 +26,7 @@ mod reading;
 mod server;
 
 pub use answer::{Answer, Extent, Info, Notice, Place, Reply, Told, Turn, Writing};
-pub use error::{Ended, Error, Refused};
+pub use error::{Cause, Ended, Error, Reason, Refused};
 pub use items::Items;
 pub use parts::{Mode, Options, Repair, Size, ITEM_LIMIT, NAME_LIMIT};
 pub use server::{Server, Settings};

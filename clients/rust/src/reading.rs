@@ -1,7 +1,7 @@
 //! How the texts of answers and notices are read.
 
 use crate::answer::{Answer, Extent, Info, Notice, Place, Reply, Told, Turn, Writing};
-use crate::error::Refused;
+use crate::error::{Cause, Reason, Refused};
 use crate::parts::{Mode, Size};
 
 const ARGUMENTS: [&str; 10] = [
@@ -63,6 +63,8 @@ impl<'a> Reader<'a> {
             10 => Reply::Turn(self.turn()?),
             11 => Reply::NoMemory,
             12 => Reply::Unsynced(self.list(Reader::unsynced)?),
+            13 => Reply::Reason(self.option(Reader::reason)?),
+            14 => Reply::Logs(self.list(Reader::short)?),
             63 => Reply::NoRequest(self.u32()?),
             _ => Reply::Refused(self.refusal(kind.checked_sub(64)?)?),
         })
@@ -76,6 +78,20 @@ impl<'a> Reader<'a> {
         }
     }
 
+    fn reason(&mut self) -> Option<Reason> {
+        let (file, cause) = (self.file()?, self.u8()?);
+        let number = i32::from_be_bytes(self.array()?);
+        let cause = match cause {
+            0 => Cause::System(number),
+            1 => Cause::OutOfMemory,
+            2 => Cause::NotPlain,
+            3 => Cause::Shorter,
+            4 => Cause::Lost,
+            _ => Cause::Other,
+        };
+        Some(Reason { file, cause })
+    }
+
     fn refusal(&mut self, number: u8) -> Option<Refused> {
         Some(match number {
             1 | 4 => Refused::Argument(number, ARGUMENTS.get(usize::from(self.u8()?))?),
@@ -84,7 +100,11 @@ impl<'a> Reader<'a> {
                 new: self.size()?,
             },
             8 => Refused::Log(self.short()?),
-            10 | 24 => Refused::File(number, self.file()?),
+            10 => Refused::File(number, self.file()?),
+            24 => Refused::Device {
+                file: self.file()?,
+                cause: None,
+            },
             19 => Refused::Bytes(self.u64()?),
             23 => Refused::Number(self.u32()?),
             _ => Refused::Plain(number),

@@ -199,8 +199,21 @@ impl Server {
         Ok(())
     }
 
-    /// Waits for the answer of a call that was sent.
+    /// Waits for the answer of a call that was sent. Where the device failed it asks for the reason too.
     pub fn answer(&self, tag: u32) -> Result<Reply, Error> {
+        let mut answer = self.answer_alone(tag);
+        if let Err(error) = &mut answer {
+            if error.is_fault() {
+                let reason = self.answer_alone(self.request(19, |_| {}));
+                if let Ok(Reply::Reason(Some(reason))) = reason {
+                    error.note(&reason);
+                }
+            }
+        }
+        answer
+    }
+
+    fn answer_alone(&self, tag: u32) -> Result<Reply, Error> {
         let deadline = self.deadline();
         // A server that has ended may have answered before.
         match self.flush() {

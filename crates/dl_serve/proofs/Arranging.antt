@@ -100,6 +100,8 @@ module _ (Z : Type 0) where
   sync_is tag (ask.Hello version) = tt
   sync_is tag ask.All = tt
   sync_is tag (ask.SyncAll client logs) = tt
+  sync_is tag ask.Reason = tt
+  sync_is tag ask.Logs = tt
 
 module _ {D Z : Type 0} (state : D → DiskState) where
   -- the text of a sync that is held is served by its event

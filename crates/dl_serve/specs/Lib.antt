@@ -4,5 +4,6 @@ pub mod Left
 pub mod Arranged
 pub mod Asked
 pub mod Synced
+pub mod Queries
 pub mod Serve
 pub mod Session

@@ -3,6 +3,8 @@ use Rattle.std.specs.Prelude.{◌≡◌, ◌==◌, ◌⊎◌, ◌<◌, ◌+◌, 
 use Rattle.std.specs.Io.KnownBytes.{Appends}
 use Rattle.std.specs.List.{flat_map}
 use Rattle.dl_types.specs.declared.event.Event.TheVariants as event
+use Rattle.dl_types.specs.declared.name.Name.{Name}
+use Rattle.dl_disk.specs.declared.reason.Reason.{Reason}
 use Rattle.dl_disk.specs.Disk.{DiskState}
 use Rattle.dl_hub.specs.declared.drained.TheConstants.{TRIES}
 use Rattle.dl_hub.specs.View.{HubView}
@@ -26,7 +28,8 @@ use Rattle.dl_serve.specs.Arranged.{Moment, served_at, held_after, all_held, Are
 use Rattle.dl_serve.specs.Asked.{Stage, Chain, IsAsked}
 use Rattle.dl_serve.specs.Frames.{IsLong, IsPartial, HasFrames, tag_of}
 use Rattle.dl_serve.specs.Left.{is_nothing, left_of}
-use Rattle.dl_serve.specs.Synced.{AreSynced}
+use Rattle.dl_serve.specs.Queries.{reason_frame, logs_frame}
+use Rattle.dl_serve.specs.Synced.{AreOpen, AreSynced}
 
 -- the beginning: no call waits, and no client is known
 abbrev pub first_stage : {D Z : Type 0} → HubView D → Stage D Z
@@ -56,6 +59,8 @@ module _ {D Z : Type 0} (state : D → DiskState) where
   IsDone tag (ask.Event e) old new frames = IsAsked state tag e old new frames
   IsDone tag ask.All old new frames = (left : Left) × IsAllFlushed tag left old new frames
   IsDone tag (ask.SyncAll client logs) old new frames = AreSynced state tag client logs old new frames
+  IsDone tag ask.Reason old new frames = (reason : Option Reason) × (new ≡ old) × (frames ≡ reason_frame tag reason)
+  IsDone tag ask.Logs old new frames = (logs : List Name) × AreOpen old.hub logs × (new ≡ old) × (frames ≡ logs_frame tag logs)
 
   -- the text of a request, which is done; or a text that is none, which is told by the place of its first wrong part
   abbrev pub IsServed : List ℕ → Stage D Z → Stage D Z → List ℕ → Type 0

@@ -49,7 +49,7 @@ pub fn sync_in<A: Allocator>(request: &Request<A>) -> Option<HeldSync>
             },
             Event::Exit { .. } | Event::Flush => None,
         },
-        Ask::Hello(_) | Ask::All | Ask::SyncAll { .. } => None,
+        Ask::Hello(_) | Ask::All | Ask::SyncAll { .. } | Ask::Reason | Ask::Logs => None,
     }
 }
 
@@ -70,7 +70,7 @@ pub fn caller_of<A: Allocator>(request: &Request<A>) -> Option<ClientId>
             },
             Event::Exit { .. } | Event::Flush => None,
         },
-        Ask::Hello(_) | Ask::All | Ask::SyncAll { .. } => None,
+        Ask::Hello(_) | Ask::All | Ask::SyncAll { .. } | Ask::Reason | Ask::Logs => None,
     }
 }
 

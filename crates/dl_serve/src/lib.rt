@@ -8,6 +8,7 @@ mod frames;
 mod held;
 mod leave;
 mod left;
+mod queries;
 mod session;
 mod stream;
 mod sync_all;

@@ -103,6 +103,14 @@ impl<A: Allocator + Copy> Session<A> {
                 Ok(())
             }
             Ask::SyncAll { client, logs } => self.sync_all(tag, client, logs, hub),
+            Ask::Reason => {
+                self.answer_reason(tag, hub.reason())?;
+                Ok(())
+            }
+            Ask::Logs => {
+                self.answer_logs(tag, hub)?;
+                Ok(())
+            }
         }
     }
 

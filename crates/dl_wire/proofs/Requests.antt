@@ -36,6 +36,8 @@ op_code op.Exit = 15
 op_code op.Flush = 16
 op_code op.All = 17
 op_code op.SyncAll = 18
+op_code op.Reason = 19
+op_code op.Logs = 20
 
 op_found : (o : Op) → slice_get ops (op_code o) ≡ Some o
 op_found op.Hello = refl
@@ -57,11 +59,13 @@ op_found op.Exit = refl
 op_found op.Flush = refl
 op_found op.All = refl
 op_found op.SyncAll = refl
+op_found op.Reason = refl
+op_found op.Logs = refl
 
 reads_op : Reads (choice_at ops) (λ o. op_code o ∷ []) (λ o. ⊤)
 reads_op =
     reads_choice op_code ops
-    (refl, (refl, (refl, (refl, (refl, (refl, (refl, (refl, (refl, (refl, (refl, (refl, (refl, (refl, (refl, (refl, (refl, (refl, (refl, tt)))))))))))))))))))
+    (refl, (refl, (refl, (refl, (refl, (refl, (refl, (refl, (refl, (refl, (refl, (refl, (refl, (refl, (refl, (refl, (refl, (refl, (refl, (refl, (refl, tt)))))))))))))))))))))
     op_found
 
 -- ---- clients
@@ -91,6 +95,8 @@ module _ {Z : Type 0} where
   ask_code (ask.Event event.Flush) = 16
   ask_code ask.All = 17
   ask_code (ask.SyncAll client logs) = 18
+  ask_code ask.Reason = 19
+  ask_code ask.Logs = 20
 
   abbrev ask_parts : Ask Z → List ℕ
   ask_parts (ask.Hello version) = u16_text version
@@ -99,6 +105,8 @@ module _ {Z : Type 0} where
   ask_parts (ask.Event event.Flush) = []
   ask_parts ask.All = []
   ask_parts (ask.SyncAll client logs) = u32_text client.0 ++ names_text logs
+  ask_parts ask.Reason = []
+  ask_parts ask.Logs = []
 
   ask_split : (a : Ask Z) → ask_text a ≡ ask_code a ∷ ask_parts a
   ask_split (ask.Hello version) = refl
@@ -107,6 +115,8 @@ module _ {Z : Type 0} where
   ask_split (ask.Event event.Flush) = refl
   ask_split ask.All = refl
   ask_split (ask.SyncAll client logs) = refl
+  ask_split ask.Reason = refl
+  ask_split ask.Logs = refl
 
   -- what has this number
   abbrev IsOfOp : Op → Ask Z → Type 0
@@ -119,6 +129,8 @@ module _ {Z : Type 0} where
   op_of (ask.Event event.Flush) = op.Flush
   op_of ask.All = op.All
   op_of (ask.SyncAll client logs) = op.SyncAll
+  op_of ask.Reason = op.Reason
+  op_of ask.Logs = op.Logs
 
   code_of_op : (a : Ask Z) → op_code (op_of a) ≡ ask_code a
   code_of_op (ask.Hello version) = refl
@@ -127,6 +139,8 @@ module _ {Z : Type 0} where
   code_of_op (ask.Event event.Flush) = refl
   code_of_op ask.All = refl
   code_of_op (ask.SyncAll client logs) = refl
+  code_of_op ask.Reason = refl
+  code_of_op ask.Logs = refl
 
   abbrev call_on : ClientId → Name → Call Z → Event Z
   call_on client log call = event.Call client log call
@@ -176,6 +190,8 @@ module _ {Z : Type 0} where
   asked_takes op.Flush = bare_takes op.Flush (ask.Event event.Flush) refl (tt, refl)
   asked_takes op.All = bare_takes op.All ask.All refl (tt, refl)
   asked_takes op.SyncAll = two_takes reads_client reads_names sync_all ask_parts (IsOfOp op.SyncAll) (λ client logs. refl) (λ client logs fit also. ((fit, also), refl))
+  asked_takes op.Reason = bare_takes op.Reason ask.Reason refl (tt, refl)
+  asked_takes op.Logs = bare_takes op.Logs ask.Logs refl (tt, refl)
 
   asked_again : (a : Ask Z) (rest : List ℕ) → IsAsk a → asked_at (op_of a) (ask_parts a ++ rest) ≡ Ok (a, rest)
   unfolding asked_at
@@ -185,6 +201,8 @@ module _ {Z : Type 0} where
   asked_again (ask.Event event.Flush) rest fit = refl
   asked_again ask.All rest fit = refl
   asked_again (ask.SyncAll client logs) rest fit = two_again reads_client reads_names sync_all client logs rest fit.0 fit.1
+  asked_again ask.Reason rest fit = refl
+  asked_again ask.Logs rest fit = refl
 
   -- a request of a tag
   abbrev tagged : ℕ → Ask Z → Request Z

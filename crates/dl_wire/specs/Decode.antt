@@ -51,7 +51,8 @@ abbrev pub ops : List Op
 ops =
     op.Hello ∷ op.Call verb.Open ∷ op.Call verb.Log ∷ op.Call verb.Alog ∷ op.Call verb.Chunk ∷ op.Call verb.ChunkStep
     ∷ op.Call verb.Truncate ∷ op.Call verb.Reopen ∷ op.Call verb.NextFile ∷ op.Call verb.ChangeSize ∷ op.Call verb.Sync
-    ∷ op.Call verb.Block ∷ op.Call verb.Unblock ∷ op.Call verb.Info ∷ op.Call verb.Close ∷ op.Exit ∷ op.Flush ∷ op.All ∷ op.SyncAll ∷ []
+    ∷ op.Call verb.Block ∷ op.Call verb.Unblock ∷ op.Call verb.Info ∷ op.Call verb.Close ∷ op.Exit ∷ op.Flush ∷ op.All ∷ op.SyncAll
+    ∷ op.Reason ∷ op.Logs ∷ []
 
 -- a position in the log of this name
 unfoldable pub position_at : Name → List ℕ → Read Continuation
@@ -151,6 +152,8 @@ module _ {Z : Type 0} where
     client ← client_at bytes
     logs ← names_at client.1
     Ok (ask.SyncAll client.0 logs.0, logs.1)
+  asked_at op.Reason bytes = Ok (ask.Reason, bytes)
+  asked_at op.Logs bytes = Ok (ask.Logs, bytes)
 
   -- a tag, a number, and the parts; and no bytes after them
   unfoldable pub whole_at : List ℕ → Result (Request Z) ℕ

@@ -84,6 +84,8 @@ module _ {Z : Type 0} where
   IsAsk (ask.Event event) = IsEvent event
   IsAsk ask.All = ⊤
   IsAsk (ask.SyncAll client logs) = (client.0 < 2 ^ 32) × AreNames logs
+  IsAsk ask.Reason = ⊤
+  IsAsk ask.Logs = ⊤
 
   abbrev pub IsRequest : Request Z → Type 0
   IsRequest r = (r.tag < 2 ^ 32) × IsAsk r.ask

@@ -5,3 +5,5 @@ pub mod Reading
 pub mod Decode
 pub mod Answer
 pub mod Unsynced
+pub mod Reason
+pub mod Logs

@@ -71,6 +71,8 @@ module _ {Z : Type 0} where
   ask_text (ask.Event event) = event_text event
   ask_text ask.All = 17 ∷ []
   ask_text (ask.SyncAll client logs) = 18 ∷ (u32_text client.0 ++ list_text (λ log. short_text (name_text log)) logs)
+  ask_text ask.Reason = 19 ∷ []
+  ask_text ask.Logs = 20 ∷ []
 
   -- a request: its tag, and what it asks for
   abbrev pub request_text : Request Z → List ℕ

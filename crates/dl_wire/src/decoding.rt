@@ -71,6 +71,8 @@ fn op_at(bytes: &[u8]) -> Result<(Op, &[u8]), ReadFault>
         Op::Flush,
         Op::All,
         Op::SyncAll,
+        Op::Reason,
+        Op::Logs,
     ];
     choice_at(&ops, bytes)
 }
@@ -104,6 +106,8 @@ fn asked_at<A: Allocator + Copy>(
             let (logs, rest) = names_at(alloc, rest)?;
             Ok((Ask::SyncAll { client, logs }, rest))
         }
+        Op::Reason => Ok((Ask::Reason, bytes)),
+        Op::Logs => Ok((Ask::Logs, bytes)),
     }
 }
 

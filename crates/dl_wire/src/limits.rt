@@ -1,7 +1,7 @@
 // The version of the frames, and the limits.
 
 /// The version of the frames that are spoken here.
-pub const VERSION: u16 = 3;
+pub const VERSION: u16 = 4;
 
 /// The longest text of a frame, in bytes, without its length: 16 MiB.
 pub const FRAME_LIMIT: usize = 16_777_216;

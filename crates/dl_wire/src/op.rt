@@ -9,6 +9,8 @@ pub enum Op {
     Flush,
     All,
     SyncAll,
+    Reason,
+    Logs,
 }
 
 /// Which call on a log.

@@ -39,8 +39,8 @@ fn push_part<A: Allocator>(out: &mut Vec<u8, A>, part: Part) -> Result<(), Alloc
     Ok(())
 }
 
-// A base, and which of its files.
-fn push_file<A: Allocator>(out: &mut Vec<u8, A>, file: FileName) -> Result<(), AllocError>
+/// A base, and which of its files.
+pub fn push_file<A: Allocator>(out: &mut Vec<u8, A>, file: FileName) -> Result<(), AllocError>
     ensures { OnOk result (out.new.items ≡ out.old.items ++ file_text file) }
 {
     push_base(out, file.base)?;

@@ -22,4 +22,8 @@ pub enum Ask<A: Allocator = Global> {
     All,
     /// A sync of each of these logs, or of all that are open if none is named, in one answer.
     SyncAll { client: ClientId, logs: LogNames<A> },
+    /// Why the last call of the device that failed did.
+    Reason,
+    /// The names of the open logs.
+    Logs,
 }

@@ -1,0 +1,8 @@
+use Rattle.std.proofs.Common.{arith}
+use Rattle.dl_wire.proofs.Frames.{begun_long}
+use Rattle.dl_wire.proofs.reason.push_reason.Goals as goal
+
+pub end-requires : goal.end-requires
+end-requires g c =
+    let long = begun_long c.args.out.now.items c.push_u32.new.out.items c.push_reason_text.new.out.items _ c.in_ok-push_u32.ensures c.in_ok-push_reason_text.ensures in
+    omega (arith, c.len-start.ensures, long)
