@@ -110,11 +110,15 @@ pub fn measure_rounds<R: Threads + Wait + Clock + Sync>(
     let done = take_rounds(rt, bench, &mut bests);
     clear(bench)?;
     done?;
-    for best in bests.iter().filter(|best| best.is_wanted(bench)) {
-        bench.at("folder").items(name_of(best.over), best.folder)?;
+    for best in &bests {
+        if best.is_wanted(bench) {
+            bench.at("folder").items(name_of(best.over), best.folder)?;
+        }
     }
-    for best in bests.iter().filter(|best| best.is_wanted(bench)) {
-        bench.at("memory").items(name_of(best.over), best.memory)?;
+    for best in &bests {
+        if best.is_wanted(bench) {
+            bench.at("memory").items(name_of(best.over), best.memory)?;
+        }
     }
     Ok(())
 }
