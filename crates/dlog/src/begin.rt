@@ -30,8 +30,8 @@ pub fn may_open(
 }
 
 /// Whether no file is newer than the index of a wrap log. Where one is, the index may be an older one, and its log would write over
-/// that file: an `Err` is the status after a message that nothing is done, as logged. An index that cannot be read is left to the
-/// open, which has its reason.
+/// that file: an `Err` is the status after a message that nothing is done, as logged. If the index or the last file cannot be read,
+/// the open reports that, with its reason.
 pub fn none_is_newer(
     rt: &HostRuntime,
     disk: &mut FolderOfLogs,
@@ -42,40 +42,34 @@ pub fn none_is_newer(
     let Kind::Wrap = log.kind else {
         return Ok(());
     };
-    match last_file(rt.alloc(), disk, log) {
-        Ok(Some(last)) => is_no_newer(rt, disk, place, last.file, done)?,
-        Ok(None) => {}
-        Err(fault) => return Err(tell(rt, fault, UNREAD)),
+    if let Ok(Some(last)) = last_file(rt.alloc(), disk, log) {
+        if let Ok(true) = is_newer(rt.alloc(), disk, last.file) {
+            return Err(tell_newer(rt, place, last.file, done));
+        }
     }
     let Ok(strays) = find_strays_of(rt.alloc(), disk, log.base) else {
         return Ok(());
     };
     for file in &strays {
-        is_no_newer(rt, disk, place, *file, done)?;
+        match is_newer(rt.alloc(), disk, *file) {
+            Ok(false) => {}
+            Ok(true) => return Err(tell_newer(rt, place, *file, done)),
+            Err(fault) => return Err(tell(rt, fault, UNREAD)),
+        }
     }
     Ok(())
 }
 
-// Whether a file is not newer than the index of its log.
-fn is_no_newer(
-    rt: &HostRuntime,
-    disk: &mut FolderOfLogs,
-    place: Place<'_>,
-    file: FileName,
-    done: &str,
-) -> Result<(), ExitCode> {
+// Says that a file is newer than the index of its log.
+fn tell_newer(rt: &HostRuntime, place: Place<'_>, file: FileName, done: &str) -> ExitCode {
     let Place { folder, log, .. } = place;
-    match is_newer(rt.alloc(), disk, file) {
-        Ok(false) => Ok(()),
-        Ok(true) => Err(tell(
-            rt,
-            format_args!(
-                "{log}: {folder}/{file} is newer than the files that the index {log}.idx names, and nothing is {done} over it: the index may be an older one\nput the right index back, or move the file away: it can be read as a halt log under another name"
-            ),
-            FAILED,
-        )),
-        Err(fault) => Err(tell(rt, fault, UNREAD)),
-    }
+    tell(
+        rt,
+        format_args!(
+            "{log}: {folder}/{file} is newer than the files that the index {log}.idx names, and nothing is {done} over it: the index may be an older one\nput the right index back, or move the file away: it can be read as a halt log under another name"
+        ),
+        FAILED,
+    )
 }
 
 // Says which files are in the way of a log, by the first of them.

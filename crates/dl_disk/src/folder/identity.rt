@@ -23,12 +23,16 @@ impl Identity {
         }
     }
 
-    /// Refuses what was found at a path as stale, unless it is this.
+    /// Refuses what was found at a path as stale, if it is something else or nothing. If it could not be looked at, the call on
+    /// the path that comes next reports why.
     pub(crate) fn expect(self, found: io::Result<Metadata>) -> io::Result<()> {
-        match found {
-            Ok(metadata) if Identity::of(&metadata) == self => Ok(()),
-            Err(error) if error.kind() != ErrorKind::NotFound => Err(error),
-            _ => Err(io::Error::from_raw_os_error(STALE)),
+        let is_stale = match found {
+            Ok(metadata) => Identity::of(&metadata) != self,
+            Err(error) => error.kind() == ErrorKind::NotFound,
+        };
+        if is_stale {
+            return Err(io::Error::from_raw_os_error(STALE));
         }
+        Ok(())
     }
 }
