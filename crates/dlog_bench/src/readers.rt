@@ -57,7 +57,10 @@ fn time<R: Threads + Wait + Clock + Sync>(rt: &R, bench: Bench<'_>) -> Result<Wa
 // Logs the items and closes the log.
 fn fill(bench: Bench<'_>, log: Name) -> Result<(), Fault> {
     let hub = Hub::new(bench.rt.alloc(), disk(bench)?, bench.blocks)?;
-    let mut client = Client { bench, hub };
+    fill_log(&mut Client { bench, hub }, log)
+}
+
+fn fill_log<D: Disk + Drop>(client: &mut Client<'_, D>, log: Name) -> Result<(), Fault> {
     client.open(log, Kind::Halt, None)?;
     client.append(&[log], 64)?;
     client.close(log)
