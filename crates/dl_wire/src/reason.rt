@@ -29,10 +29,7 @@ fn cause_code(cause: Cause) -> u8
 fn error_number(cause: Cause) -> i32
     ensures { result ≡ error_number cause }
 {
-    match cause {
-        Cause::System(number) => number,
-        _ => 0,
-    }
+    cause.number().unwrap_or(0)
 }
 
 // A signed number of four bytes.

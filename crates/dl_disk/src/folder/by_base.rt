@@ -33,6 +33,7 @@ impl FilesByBase {
     /// Adds a file.
     pub(crate) fn insert(&mut self, file: FileName) -> Result<(), AllocError>
         ensures added { OnOk result (IsTrue (has_file self.new file)) }
+        ensures kept { (other : FileName) → IsTrue (has_file self.old other) → IsTrue (has_file self.new other) }
         ensures err { OnErr result ((other : FileName) → has_file self.new other ≡ has_file self.old other) }
     {
         match self.bases.get_mut(&file.base) {
@@ -48,6 +49,7 @@ impl FilesByBase {
     fn begin(&mut self, file: FileName) -> Result<(), AllocError>
         requires { get base_ghosts.eq self.old.bases file.base ≡ None }
         ensures added { OnOk result (IsTrue (has_file self.new file)) }
+        ensures kept { (other : FileName) → IsTrue (has_file self.old other) → IsTrue (has_file self.new other) }
         ensures err { OnErr result ((other : FileName) → has_file self.new other ≡ has_file self.old other) }
     {
         let mut files: FileSet = IndexSet::new(self.alloc);

@@ -42,6 +42,7 @@ impl Owed {
     /// Notes that a file is written.
     pub(crate) fn write(&mut self, file: FileName) -> Result<(), AllocError>
         ensures owes { OnOk result (IsTrue (owes self.new file)) }
+        ensures kept { (other : FileName) → IsTrue (owes self.old other) → IsTrue (owes self.new other) }
         ensures changed { is_unchanged self.new file ≡ false }
         ensures rest { self.new ≡ record self.old { files = self.new.files; unchanged = self.new.unchanged } }
         ensures err { OnErr result ((other : FileName) → owes self.new other ≡ owes self.old other) }
